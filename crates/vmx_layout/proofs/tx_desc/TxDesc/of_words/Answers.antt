@@ -1,0 +1,9 @@
+use Rattle.std.proofs.Common.{ℕ, List, Ok, sym, ap, subst}
+use Rattle.vmx_layout.specs.TxDesc.{HasFields}
+use Rattle.vmx_layout.specs.TxDescLaws.{HasFields-words_of, same_fields}
+use Rattle.vmx_layout.proofs.tx_desc.TxDesc.of_words.Goals as goal
+
+pub returns-clause-only : goal.returns-clause-only
+returns-clause-only c d e =
+    let Of : List ℕ → Type 0 = λ words. HasFields words d in
+    ap Ok (same_fields c.args.words _ d c.fields.ensures (subst Of (sym e) (HasFields-words_of d)))

@@ -1,0 +1,15 @@
+pub mod Bits
+pub mod BitsLaws
+pub mod BufferType
+pub mod Command
+pub mod Fault
+pub mod Register
+pub mod RegisterLaws
+pub mod RxComp
+pub mod RxCompLaws
+pub mod RxDesc
+pub mod RxDescLaws
+pub mod TxComp
+pub mod TxCompLaws
+pub mod TxDesc
+pub mod TxDescLaws
