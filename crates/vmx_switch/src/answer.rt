@@ -1,0 +1,17 @@
+//! The answer of the switch: ports in port order.
+//!
+//! The first `count` entries of `ports` are the targets; the entries behind them are 0.
+
+ghost use Rattle.std.specs.Prelude.{◌≤◌};
+
+/// The ports that a frame goes to.
+#[derive(Clone, Copy, Debug, PartialEq, Eq)]
+pub struct Targets {
+    /// The number of targets, 0 to 16.
+    pub count: u32,
+
+    /// The targets' numbers, rising, and 0 from `count` on.
+    pub ports: [u32; 16],
+
+    pub ghost few: { count ≤ 16 },
+}
