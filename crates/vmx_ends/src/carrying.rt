@@ -1,0 +1,134 @@
+//! Callers that are generic in the fabric: notes both ways over one queue, and one frame through it. They are proved from
+//! the contracts of the traits alone, beginning from equal keys and different sides.
+ghost use Rattle.std.specs.Prelude.{◌≡◌, ◌≤◌, ℕ, IsTrue, [], ◌∷◌, ◌++◌, length, false, vec_len, vec_capacity};
+ghost use mathlib.Core.List.{IsPrefix};
+ghost use Rattle.vmx_ends.specs.Frames.{IsFrame, sent_of};
+ghost use Rattle.vmx_ends.specs.Queues.{IsCaughtUp, IsSmall, IsCaughtUpRx, IsSmallRx};
+
+use crate::{
+    Deliver, Fabric, Post, Reap, Receive, RxDevice, RxDriver, RxMeta, Take, TxDevice, TxDriver,
+};
+
+/// Passes a note of a transmit queue's driver to its device, and one back.
+pub fn pass<F: Fabric>(driver: &mut F::TxDriver, device: &mut F::TxDevice)
+    requires one { (F.TxDriver.view driver.old).key ≡ (F.TxDevice.view device.old).key }
+    ensures one { (F.TxDriver.view driver.new).key ≡ (F.TxDevice.view device.new).key }
+    ensures made { ((F.TxDriver.view driver.new).made ≡ (F.TxDevice.view device.new).made) × ((F.TxDriver.view driver.new).made ≡ (F.TxDriver.view driver.old).made) }
+    ensures driver { ((F.TxDriver.view driver.new).sent ≡ (F.TxDriver.view driver.old).sent) × ((F.TxDriver.view driver.new).reaped ≡ (F.TxDriver.view driver.old).reaped) }
+    ensures device { ((F.TxDevice.view device.new).taken ≡ (F.TxDevice.view device.old).taken) × ((F.TxDevice.view device.new).completed ≡ (F.TxDevice.view device.old).completed) }
+    ensures given { (F.TxDevice.view device.new).given ≡ (F.TxDevice.view device.old).given }
+    ensures driver_heard { (F.TxDevice.view device.old).completed ≤ (F.TxDriver.view driver.new).heard }
+    ensures device_heard { length (F.TxDriver.view driver.old).sent ≤ length (F.TxDevice.view device.new).heard }
+    ensures within { IsPrefix (sent_of (F.TxDevice.view device.new).taken) (F.TxDriver.view driver.new).sent }
+    ensures ordered { (F.TxDriver.view driver.new).reaped ≤ (F.TxDevice.view device.new).completed }
+{
+    let note = driver.note();
+    device.hear(note);
+    let back = device.note();
+    driver.hear(back);
+}
+
+/// Carries a frame through a transmit queue from post to reap. False: the ring has fewer descriptors than it needs.
+pub fn carry<F: Fabric>(
+    driver: &mut F::TxDriver,
+    device: &mut F::TxDevice,
+    frame: &[u8],
+    into: &mut Vec<u8>,
+) -> bool
+    requires one { (F.TxDriver.view driver.old).key ≡ (F.TxDevice.view device.old).key }
+    requires caught_up { IsCaughtUp (F.TxDriver.view driver.old) (F.TxDevice.view device.old) }
+    requires small { IsSmall (F.TxDriver.view driver.old) (F.TxDevice.view device.old) }
+    requires fine { (F.TxDevice.view device.old).given ≡ false }
+    requires frame { IsFrame frame.now }
+    requires empty { vec_len into.old ≡ 0 }
+    requires room { 9022 ≤ vec_capacity into.old }
+    ensures bytes { IsTrue result → into.new.items ≡ frame.now }
+    ensures sent { IsTrue result → (F.TxDriver.view driver.new).sent ≡ (F.TxDriver.view driver.old).sent ++ record { frame = frame.now } ∷ [] }
+    ensures one { (F.TxDriver.view driver.new).key ≡ (F.TxDevice.view device.new).key }
+    ensures caught_up { IsCaughtUp (F.TxDriver.view driver.new) (F.TxDevice.view device.new) }
+{
+    match driver.post(frame) {
+        Post::Full { used: _, need: _ } => false,
+        Post::Done { place: _ } => {
+            pass::<F>(driver, device);
+            match device.take(into) {
+                Take::Frame { place: _ } => {
+                    device.complete();
+                    pass::<F>(driver, device);
+                    match driver.reap() {
+                        Reap::Done {
+                            place: _,
+                            descriptors: _,
+                        } => true,
+                        Reap::NotYet { word: _ } => unreachable!(),
+                    }
+                }
+                Take::Empty { word: _ } => unreachable!(),
+                Take::Bad { words: _, fault: _ } => unreachable!(),
+            }
+        }
+    }
+}
+
+/// Passes a note of a receive queue's device to its driver, and one back.
+pub fn pass_rx<F: Fabric>(driver: &mut F::RxDriver, device: &mut F::RxDevice)
+    requires one { (F.RxDriver.view driver.old).key ≡ (F.RxDevice.view device.old).key }
+    ensures one { (F.RxDriver.view driver.new).key ≡ (F.RxDevice.view device.new).key }
+    ensures made { ((F.RxDriver.view driver.new).made ≡ (F.RxDevice.view device.new).made) × ((F.RxDriver.view driver.new).made ≡ (F.RxDriver.view driver.old).made) }
+    ensures received { (F.RxDriver.view driver.new).received ≡ (F.RxDriver.view driver.old).received }
+    ensures delivered { (F.RxDevice.view device.new).delivered ≡ (F.RxDevice.view device.old).delivered }
+    ensures refused { (F.RxDevice.view device.new).refused ≡ (F.RxDevice.view device.old).refused }
+    ensures given { (F.RxDevice.view device.new).given ≡ (F.RxDevice.view device.old).given }
+    ensures driver_heard { length (F.RxDevice.view device.old).delivered ≤ length (F.RxDriver.view driver.new).heard }
+    ensures device_heard { length (F.RxDriver.view driver.old).received ≤ length (F.RxDevice.view device.new).heard }
+    ensures within { IsPrefix (F.RxDriver.view driver.new).received (F.RxDevice.view device.new).delivered }
+{
+    let note = device.note();
+    driver.hear(note);
+    let back = driver.note();
+    device.hear(back);
+}
+
+/// Carries a frame through a receive queue from deliver to receive. False: a descriptor was missing.
+pub fn carry_rx<F: Fabric>(
+    driver: &mut F::RxDriver,
+    device: &mut F::RxDevice,
+    frame: &[u8],
+    meta: &RxMeta,
+    into: &mut Vec<u8>,
+) -> bool
+    requires one { (F.RxDriver.view driver.old).key ≡ (F.RxDevice.view device.old).key }
+    requires caught_up { IsCaughtUpRx (F.RxDriver.view driver.old) (F.RxDevice.view device.old) }
+    requires small { IsSmallRx (F.RxDriver.view driver.old) (F.RxDevice.view device.old) }
+    requires fine { (F.RxDevice.view device.old).given ≡ false }
+    requires frame { IsFrame frame.now }
+    requires empty { vec_len into.old ≡ 0 }
+    requires room { 9022 ≤ vec_capacity into.old }
+    ensures bytes { IsTrue result → into.new.items ≡ frame.now }
+    ensures one { (F.RxDriver.view driver.new).key ≡ (F.RxDevice.view device.new).key }
+    ensures caught_up { IsCaughtUpRx (F.RxDriver.view driver.new) (F.RxDevice.view device.new) }
+{
+    match device.deliver(frame, meta) {
+        Deliver::NoBuffer {
+            ring: _,
+            position: _,
+            word: _,
+            look: _,
+        } => false,
+        Deliver::Bad { words: _, fault: _ } => unreachable!(),
+        Deliver::Done { place: _ } => {
+            pass_rx::<F>(driver, device);
+            match driver.receive(into) {
+                Receive::Frame {
+                    place: _,
+                    meta: _,
+                    descriptors: _,
+                } => {
+                    pass_rx::<F>(driver, device);
+                    true
+                }
+                Receive::NotYet { word: _ } => unreachable!(),
+            }
+        }
+    }
+}

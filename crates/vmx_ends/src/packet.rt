@@ -1,0 +1,59 @@
+//! A packet is a copy of a sent frame on its way from one guest to another.
+//! Its tag says where the frame was sent: guest, activation, queue and place, each counted from 0. Own to this project.
+//! A frame has 14 to 9,022 bytes: an Ethernet header at least, and at most a header with a VLAN tag and an MTU of 9,000.
+ghost use Rattle.std.specs.Prelude.{◌≡◌, ◌≤◌, length};
+ghost use Rattle.vmx_ends.specs.declared.packet.TheConstants.{MIN_FRAME, MAX_FRAME};
+
+use vmx_io::Bytes;
+
+/// The fewest bytes of a frame.
+pub const MIN_FRAME: usize = 14;
+
+/// The most bytes of a frame.
+pub const MAX_FRAME: usize = 9022;
+
+/// Where a frame was sent.
+#[derive(Clone, Copy, Debug, PartialEq, Eq)]
+pub struct Tag {
+    /// The guest that sent it, by its port.
+    pub guest: u32,
+    /// Which activation of that guest.
+    pub activation: u32,
+    /// The transmit queue of that activation.
+    pub queue: u32,
+    /// How many frames were sent on the queue before it.
+    pub place: u64,
+}
+
+/// A queue of one activation of a guest.
+#[derive(Clone, Copy, Debug, PartialEq, Eq)]
+pub struct QueueName {
+    pub guest: u32,
+    pub activation: u32,
+    pub queue: u32,
+}
+
+/// A frame and its tag.
+#[derive(Debug, Drop)]
+pub struct Packet {
+    pub tag: Tag,
+    /// 14 to 9,022 bytes.
+    pub frame: Bytes,
+    ghost least: { MIN_FRAME ≤ length frame },
+    ghost most: { length frame ≤ MAX_FRAME },
+}
+
+impl Tag {
+    /// The queue that the frame was sent on.
+    pub fn queue_name(self) -> QueueName
+        ensures guest { result.guest ≡ self.guest }
+        ensures activation { result.activation ≡ self.activation }
+        ensures queue { result.queue ≡ self.queue }
+    {
+        QueueName {
+            guest: self.guest,
+            activation: self.activation,
+            queue: self.queue,
+        }
+    }
+}
