@@ -1,0 +1,5 @@
+pub mod Seats
+pub mod Rule
+pub mod Tells
+pub mod Views
+pub mod Ends

@@ -1,0 +1,35 @@
+-- Links as contracts see them: plain data, a record an end.
+use Rattle.std.specs.Prelude.{ℕ, List, Bool}
+use Rattle.vmx_ends.specs.declared.packet.Packet.{Packet}
+
+-- The sender: its table's key, how many entries the link has, the ports at its two sides, the packets pushed, the looks that found it full (packets pushed before, word),
+-- the packets that it heard were pulled, and how many notes it gave and heard
+pub record LinkOutView : Type 0 where
+  pub key : List ℕ
+  pub capacity : ℕ
+  pub from : ℕ
+  pub to : ℕ
+  pub pushed : List Packet
+  pub full : List (ℕ × ℕ)
+  pub freed : List Packet
+  pub given : ℕ
+  pub heard : ℕ
+
+-- The receiver: the same, with the packets pulled, the looks that found nothing (packets pulled before, word), and the packets that it heard were pushed
+pub record LinkInView : Type 0 where
+  pub key : List ℕ
+  pub capacity : ℕ
+  pub from : ℕ
+  pub to : ℕ
+  pub pulled : List Packet
+  pub empty : List (ℕ × ℕ)
+  pub filled : List Packet
+  pub given : ℕ
+  pub heard : ℕ
+
+-- A note: of which table's sender or receiver it is, and the packets that were pushed and pulled as that end knows
+pub record LinkNoteView : Type 0 where
+  pub key : List ℕ
+  pub of_sender : Bool
+  pub pushed : List Packet
+  pub pulled : List Packet
