@@ -1,0 +1,5 @@
+pub mod Threads
+pub mod Fates
+pub mod Said
+pub mod Ends
+pub mod Only

@@ -1,0 +1,29 @@
+use Rattle.std.proofs.Common.{sym, refl}
+use Rattle.std.specs.String.{string_bytes}
+use Rattle.vmx_tool.proofs.Ends.{stopped, finished, same_world}
+use Rattle.vmx_tool.proofs.top.run_pair.Goals as goal
+
+pub returns-in-Err : goal.returns-in-Err
+returns-in-Err g c =
+    let r = rw c.stop_status.ensures at c.refuse-in-Err.ensures.line in
+    let l = c.in-Err.ensures in
+    stopped string_bytes c.stop_line.result c.refuse-in-Err.result _ c.in-Err.stop c.in-Some.from.now c.in-Some.to.now _ _ r c.stop_line.ensures c.refuse-in-Err.ensures.account (sym c.in-Some.ensures) l.content l.reads l.files l.writes
+
+pub returns-in-Ok-replay : goal.returns-in-Ok-replay
+returns-in-Ok-replay g c =
+    let l = c.in-Ok.ensures in
+    let r = c.in-Ok-replay.ensures in
+    finished _ _ _ _ _ _ _ _
+    (record {
+      from = c.in-Some.from.now;
+      to = c.in-Some.to.now;
+      records = c.in-Ok.read.capture.records;
+      tail = c.in-Ok.read.capture.tail;
+      told = c.in-Ok-replay.replayed.«record»;
+      words_are = sym c.in-Some.ensures;
+      captured = l.content.1;
+      few = l.content.0;
+      accounts = r.«record»;
+      account_is = c.finish.ensures.account;
+    })
+    (same_world _ _ l.files refl l.reads l.writes refl) c.finish.ensures.reads r.file r.summary c.finish.ensures.ends

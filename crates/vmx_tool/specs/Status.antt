@@ -1,0 +1,13 @@
+-- The numbers that the program ends with.
+use Rattle.std.specs.Prelude.{ℕ}
+use Rattle.vmx_tool.specs.declared.status.Status.{Status}
+use Rattle.vmx_tool.specs.declared.status.Status.TheVariants as status
+
+abbrev pub number_of : Status → ℕ
+number_of status.Ok = 0
+number_of status.Usage = 2
+number_of status.Capture = 4
+number_of status.TooLong = 5
+number_of status.ReadFault = 6
+number_of status.WriteFault = 7
+number_of status.NoMemory = 8

@@ -1,0 +1,61 @@
+//! The capture that a run reads: at most 67,108,864 bytes, and at most 262,144 records.
+//!
+//! Once the records are read, nobody reads the file's bytes any more: their memory is handed on as room.
+ghost use Rattle.std.specs.Prelude.{◌≡◌};
+ghost use Rattle.vmx_tool.specs.Ends.{Loaded, LoadedCounts};
+
+use std::alloc::Global;
+use vmx_io::{Bytes, Load, Shelf};
+use vmx_pcap::{Capture, CaptureFault};
+
+/// A capture, and the memory that held its file.
+#[derive(Drop)]
+pub struct ReadCapture {
+    pub capture: Capture,
+    pub room: Bytes,
+}
+
+/// Why there is no capture.
+#[derive(Clone, Copy, Debug, PartialEq, Eq)]
+pub enum Stop {
+    /// The shelf failed to read.
+    Failed,
+    /// The file is longer than the limit.
+    TooLong,
+    /// The file has `len` bytes, fewer than the 24 of a header.
+    Header { len: u32 },
+    /// The file is no capture that is read.
+    Form,
+    /// No memory was found.
+    NoMemory,
+}
+
+/// The greatest length of a capture's file, in bytes.
+const LIMIT: u64 = 67_108_864;
+
+/// The greatest number of a capture's records.
+const MOST: u32 = 262_144;
+
+/// Loads a file and reads the capture that it holds.
+pub fn load_capture<S: Shelf>(alloc: Global, from: &str, shelf: &mut S) -> Result<ReadCapture, Stop>
+    ensures content { Loaded result from.now (S.files shelf.old) }
+    ensures reads { LoadedCounts result (S.read_faults shelf.old) (S.read_faults shelf.new) }
+    ensures files { S.files shelf.new ≡ S.files shelf.old }
+    ensures writes { S.write_faults shelf.new ≡ S.write_faults shelf.old }
+{
+    let bytes = match shelf.load(alloc, from, LIMIT) {
+        Load::Bytes { bytes } => bytes,
+        Load::Failed => return Err(Stop::Failed),
+        Load::TooLong => return Err(Stop::TooLong),
+        Load::NoMemory => return Err(Stop::NoMemory),
+    };
+    match vmx_pcap::read(alloc, bytes.as_slice(), MOST) {
+        Ok(capture) => Ok(ReadCapture {
+            capture,
+            room: bytes,
+        }),
+        Err(CaptureFault::Header { len }) => Err(Stop::Header { len }),
+        Err(CaptureFault::Form) => Err(Stop::Form),
+        Err(CaptureFault::Memory) => Err(Stop::NoMemory),
+    }
+}
