@@ -1,0 +1,4 @@
+pub mod FirstFault
+pub mod Macs
+pub mod Totals
+pub mod Whole

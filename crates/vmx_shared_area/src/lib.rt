@@ -1,0 +1,36 @@
+//! The area of 8,192 bytes that a vmxnet3 driver and its device share.
+//!
+//! A driver writes a [`Setup`] into an [`Image`] and the device reads it back, or names the first check that fails. Offsets are those of
+//! Linux's `vmxnet3_defs.h` (`Vmxnet3_DriverShared`, `Vmxnet3_TxQueueDesc`, `Vmxnet3_RxQueueDesc`); where the parts stand, the checks and
+//! the guest addresses are this project's own. All numbers are little-endian.
+#![tactic(auto)]
+
+mod checks;
+mod fault;
+mod fields;
+mod filter;
+mod filter_checks;
+mod image;
+mod numbers;
+mod parts;
+mod reading;
+mod rss;
+mod rss_checks;
+mod setup;
+mod statistics;
+mod stats;
+#[cfg(test)]
+mod tests;
+mod writing;
+
+pub use fault::ImageFault;
+pub use filter::{Filter, MacTable};
+pub use image::Image;
+pub use reading::{
+    read, read_features, read_levels, read_mode, read_multicast, read_rss, read_table, read_vlans,
+};
+pub use rss::{IndexTable, MICROSOFT_KEY, Rss};
+pub use setup::Setup;
+pub use statistics::{read_stats, write_stats, write_status};
+pub use stats::{Side, Stats};
+pub use writing::write;

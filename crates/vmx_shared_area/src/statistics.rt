@@ -1,0 +1,94 @@
+//! Statistics and status in a queue's descriptor. Receive descriptors stand behind so many transmit ones as the caller says, whatever
+//! the image says.
+
+ghost use Rattle.std.specs.Prelude.{◌≡◌, ◌≤◌, ◌<◌, ◌+◌, ◌*◌, ℕ, List, length, slice_index};
+ghost use Rattle.vmx_shared_area.specs.Bytes.{number_at};
+ghost use Rattle.vmx_shared_area.specs.declared.stats.Stats.{Stats as StatsOf};
+ghost use Rattle.vmx_shared_area.specs.Layout.{descriptor_at, stats_bytes, status_bytes, with_part};
+
+use crate::fields::Field::{U8, U32, U64, Zeros};
+use crate::fields::put_all;
+use crate::numbers::counts_at;
+use crate::{Image, Side, Stats};
+
+/// Writes the statistics of a queue, and nothing else. `tx_queues` is 1 to 8 and `queue` below 8, on the transmit side below `tx_queues`.
+pub fn write_stats(image: &mut Image, tx_queues: u32, side: Side, queue: u32, stats: &Stats)
+    requires tx_low { 1 ≤ tx_queues }
+    requires tx_high { tx_queues ≤ 8 }
+    requires queue { queue < 8 }
+    requires tx_queue { side ≡ Side.Tx → queue < tx_queues }
+    ensures written { image.new ≡ with_part (descriptor_at tx_queues side queue + 88) 80 (stats_bytes stats.now.counts) image.old }
+{
+    let start = descriptor(tx_queues, side, queue);
+    put_stats(image.bytes_mut(), start + 88, &stats.counts);
+}
+
+fn put_stats(bytes: &mut [u8], start: usize, counts: &[u64; 10])
+    requires room { start + 80 ≤ length bytes.old }
+    ensures written { bytes.new ≡ with_part start 80 (stats_bytes counts.now) bytes.old }
+{
+    let fields = [
+        U64(counts[0]),
+        U64(counts[1]),
+        U64(counts[2]),
+        U64(counts[3]),
+        U64(counts[4]),
+        U64(counts[5]),
+        U64(counts[6]),
+        U64(counts[7]),
+        U64(counts[8]),
+        U64(counts[9]),
+    ];
+    put_all(bytes, start, start + 80, &fields);
+}
+
+/// The statistics of a queue, under the conditions of `write_stats`.
+pub fn read_stats(image: &Image, tx_queues: u32, side: Side, queue: u32) -> Stats
+    requires tx_low { 1 ≤ tx_queues }
+    requires tx_high { tx_queues ≤ 8 }
+    requires queue { queue < 8 }
+    requires tx_queue { side ≡ Side.Tx → queue < tx_queues }
+    ensures back { (s : StatsOf) (old : List ℕ) → length old ≡ 8192 → image.now ≡ with_part (descriptor_at tx_queues side queue + 88) 80 (stats_bytes s.counts) old → result ≡ s }
+    ensures told { (i : ℕ) → i < 10 → slice_index result.counts i ≡ number_at 8 (descriptor_at tx_queues side queue + 88 + 8 * i) image.now }
+{
+    let start = descriptor(tx_queues, side, queue);
+    Stats {
+        counts: counts_at(image.bytes(), start + 88),
+    }
+}
+
+/// Writes the status of a queue, and nothing else, under the conditions of `write_stats`: stopped with the number of an error, or neither.
+pub fn write_status(image: &mut Image, tx_queues: u32, side: Side, queue: u32, error: Option<u32>)
+    requires tx_low { 1 ≤ tx_queues }
+    requires tx_high { tx_queues ≤ 8 }
+    requires queue { queue < 8 }
+    requires tx_queue { side ≡ Side.Tx → queue < tx_queues }
+    ensures written { image.new ≡ with_part (descriptor_at tx_queues side queue + 80) 8 (status_bytes error) image.old }
+{
+    let start = descriptor(tx_queues, side, queue);
+    put_status(image.bytes_mut(), start + 80, error);
+}
+
+fn put_status(bytes: &mut [u8], start: usize, error: Option<u32>)
+    requires room { start + 8 ≤ length bytes.old }
+    ensures written { bytes.new ≡ with_part start 8 (status_bytes error) bytes.old }
+{
+    let fields = match error {
+        Some(number) => [U8(1), Zeros(3), U32(number)],
+        None => [U8(0), Zeros(3), U32(0)],
+    };
+    put_all(bytes, start, start + 8, &fields);
+}
+
+/// Where the descriptor of a queue stands.
+fn descriptor(tx_queues: u32, side: Side, queue: u32) -> usize
+    requires tx_high { tx_queues ≤ 8 }
+    requires queue { queue < 8 }
+    ensures start { result ≡ descriptor_at tx_queues side queue }
+    ensures inside { result + 256 ≤ 8192 }
+{
+    match side {
+        Side::Tx => 1024 + 256 * queue as usize,
+        Side::Rx => 1024 + 256 * (tx_queues as usize + queue as usize),
+    }
+}
