@@ -1,0 +1,9 @@
+pub mod SetupView
+pub mod ImageSetup
+pub mod Orders
+pub mod DeviceState
+pub mod Agree
+pub mod Determined
+pub mod Taken
+pub mod Laws
+pub mod Plain

@@ -1,0 +1,19 @@
+//! The state of a device after a list of commands, and what it answers to a command that sets something.
+//!
+//! Both are functions of what a driver told: a list of turns, each a command with its answer (`Turn`). The definitions stand
+//! in `specs/DeviceState.antt`; [`PlainDevice`] is the plain program that computes them, one command at a time. A device that
+//! holds queue ends answers as this one does, which holds none.
+#![tactic(auto)]
+
+mod order;
+mod plain;
+mod turn;
+mod updates;
+
+pub use order::{Order, Part};
+pub use plain::PlainDevice;
+pub use turn::{AnswerView, CommandView, EndCounts, Turn};
+pub use updates::update_of;
+
+#[cfg(test)]
+mod tests;
