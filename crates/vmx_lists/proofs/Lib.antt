@@ -1,0 +1,11 @@
+mod TxCounts
+mod TxRings
+mod TxViews
+mod TxSteps
+mod TxParts
+mod RxRings
+mod RxViews
+mod RxSteps
+mod RxParts
+mod RxDevices
+mod RxDelivers

@@ -1,0 +1,293 @@
+//! What stands at numbers, through the calls of the fabric.
+ghost use Rattle.std.specs.Prelude.{◌≡◌, ◌≤◌, ◌<◌, ◌+◌, ◌*◌, ◌^◌, length, true, vec_len, vec_capacity};
+ghost use Rattle.vmx_ends.specs.Frames.{IsFrame};
+ghost use Rattle.vmx_ends.specs.Transmit.{posted};
+ghost use Rattle.vmx_ends.specs.Receive.{used, pieces_of, consumed1, consumed2};
+ghost use Rattle.vmx_lists.specs.TxEnds.{driver_view as tx_driver};
+ghost use Rattle.vmx_lists.specs.RxEnds.{driver_view as rx_driver, device_view as rx_device};
+
+use crate::{ListFabric, ListRxDevice, ListRxDriver, ListTxDriver};
+use std::alloc::{AllocError, Global};
+use vmx_ends::{
+    Deliver, Fabric, Post, QueueName, Reap, Receive, RxDevice, RxDriver, RxFacts, RxMeta, RxShape,
+    Take, TxDevice, TxDriver, TxFacts,
+};
+
+const NAME: QueueName = QueueName {
+    guest: 2,
+    activation: 1,
+    queue: 0,
+};
+
+/// Posts the frame so many times, and tells whether it got the places from 0 on.
+fn posts_all(driver: &mut ListTxDriver, frame: &[u8], count: u64) -> bool
+    requires frame { IsFrame frame.now }
+    requires small { (count ≤ 1000) × (length (tx_driver driver.old).sent ≤ 1000) × (posted (tx_driver driver.old) ≤ 1000) }
+    ensures sent { length (tx_driver driver.new).sent ≤ 1000 + count }
+    ensures posted { posted (tx_driver driver.new) ≤ 1000 + 16 * count }
+{
+    for place in 0..count {
+        if driver.post(frame) != (Post::Done { place }) {
+            return false;
+        }
+    }
+    true
+}
+
+/// Delivers the frame so many times, and tells whether it got the places from 0 on.
+fn delivers_all(device: &mut ListRxDevice, frame: &[u8], meta: &RxMeta, count: u64) -> bool
+    requires frame { IsFrame frame.now }
+    requires full { (rx_device device.old).made.full ≡ true }
+    requires small { (count ≤ 1000) × (length (rx_device device.old).delivered ≤ 1000) × (length (rx_device device.old).refused ≤ 1000) }
+    requires positions { (consumed1 (rx_device device.old) ≤ 1000) × (consumed2 (rx_device device.old) ≤ 1000) }
+    ensures full { (rx_device device.new).made.full ≡ true }
+    ensures lists { (length (rx_device device.new).delivered ≤ 1000 + count) × (length (rx_device device.new).refused ≤ 1000 + count) }
+    ensures positions { (consumed1 (rx_device device.new) ≤ 1000 + 16 * count) × (consumed2 (rx_device device.new) ≤ 1000 + 16 * count) }
+{
+    for place in 0..count {
+        if device.deliver(frame, meta) != (Deliver::Done { place }) {
+            return false;
+        }
+    }
+    true
+}
+
+#[test]
+fn fresh_queues_have_nothing(rt: HostRuntime) -> Result<(), AllocError> {
+    let alloc = rt.alloc();
+    let (mut driver, mut device) = ListFabric::make_tx(alloc, NAME, 32, 4096)?;
+    let (mut receiver, _deliverer) = ListFabric::make_rx(alloc, shape(0))?;
+    let mut into = Vec::new(alloc);
+    into.reserve(9022)?;
+    let nothing = device.take(&mut into);
+    assert!(rt; nothing == Take::Empty { word: 0 });
+    let early = driver.reap();
+    assert!(rt; early == Reap::NotYet { word: 0 });
+    into.clear();
+    let nothing = receiver.receive(&mut into);
+    assert!(rt; nothing == Receive::NotYet { word: 0 });
+    Ok(())
+}
+
+#[test]
+fn the_eleventh_long_frame_finds_the_ring_full(rt: HostRuntime) -> Result<(), AllocError> {
+    let alloc = rt.alloc();
+    let (mut driver, mut device) = ListFabric::make_tx(alloc, NAME, 32, 4096)?;
+    let frame = Vec::from_elem(alloc, 7u8, 9014)?;
+    let mut into = Vec::new(alloc);
+    into.reserve(9022)?;
+    let all = posts_all(&mut driver, frame.as_slice(), 10);
+    assert!(rt; all);
+    let full = driver.post(frame.as_slice());
+    assert!(rt; full == Post::Full { used: 30, need: 3 });
+    let early = driver.reap();
+    assert!(rt; early == Reap::NotYet { word: 0 });
+    match device.take(&mut into) {
+        Take::Frame { place } => {
+            assert!(rt; place == 0);
+            device.complete();
+        }
+        Take::Empty { word: _ } => panic!(rt; "no frame"),
+        Take::Bad { words: _, fault: _ } => panic!(rt; "a fault"),
+    }
+    assert!(rt; into.as_slice() == frame.as_slice());
+    let reaped = driver.reap();
+    assert!(rt;
+        reaped
+            == Reap::Done {
+                place: 0,
+                descriptors: 3
+            }
+    );
+    Ok(())
+}
+
+#[test]
+fn facts_tell_what_both_ends_did(rt: HostRuntime) -> Result<(), AllocError> {
+    let alloc = rt.alloc();
+    let (driver, device) = ListFabric::make_tx(alloc, NAME, 32, 4096)?;
+    let facts = ListFabric::meet_tx(driver, device);
+    assert!(rt; facts.name() == NAME);
+    assert!(rt;
+        (
+            facts.sent(),
+            facts.taken(),
+            facts.completed(),
+            facts.reaped()
+        ) == (0, 0, 0, 0)
+    );
+    let (driver, mut device) = ListFabric::make_rx(alloc, shape(0))?;
+    let frame = Vec::from_elem(alloc, 7u8, 60)?;
+    let meta = RxMeta { hash: 7, kind: 2 };
+    match device.deliver(frame.as_slice(), &meta) {
+        Deliver::Done { place } => {
+            assert!(rt; place == 0);
+            let facts = ListFabric::meet_rx(driver, device);
+            assert!(rt; facts.name() == NAME);
+            assert!(rt; (facts.delivered(), facts.received(), facts.refused()) == (1, 0, 0));
+        }
+        Deliver::NoBuffer {
+            ring: _,
+            position: _,
+            word: _,
+            look: _,
+        } => panic!(rt; "no buffer"),
+        Deliver::Bad { words: _, fault: _ } => panic!(rt; "a fault"),
+    }
+    Ok(())
+}
+
+fn shape(bodies: u32) -> RxShape
+    requires { bodies ≤ 2 }
+    ensures { (result.bodies ≡ bodies) × (result.size1 ≡ 32) × (result.size2 ≡ 32) × (result.queues ≡ 1) × (result.name.queue ≡ 0) }
+{
+    RxShape {
+        name: NAME,
+        queues: 1,
+        size1: 32,
+        size2: 32,
+        bodies,
+    }
+}
+
+#[test]
+fn the_thirty_third_short_frame_finds_no_head(rt: HostRuntime) -> Result<(), AllocError> {
+    let alloc = rt.alloc();
+    let (mut driver, mut device) = ListFabric::make_rx(alloc, shape(0))?;
+    let meta = RxMeta { hash: 7, kind: 2 };
+    let frame = Vec::from_elem(alloc, 9u8, 60)?;
+    let mut into = Vec::new(alloc);
+    into.reserve(9022)?;
+    let all = delivers_all(&mut device, frame.as_slice(), &meta, 32);
+    assert!(rt; all);
+    let refused = device.deliver(frame.as_slice(), &meta);
+    assert!(rt;
+        refused
+            == Deliver::NoBuffer {
+                ring: 1,
+                position: 32,
+                word: 0x80000000,
+                look: 0
+            }
+    );
+    let got = driver.receive(&mut into);
+    assert!(rt;
+        got == Receive::Frame {
+            place: 0,
+            meta,
+            descriptors: 1
+        }
+    );
+    assert!(rt; into.as_slice() == frame.as_slice());
+    let back = device.deliver(frame.as_slice(), &meta);
+    assert!(rt; back == Deliver::Done { place: 32 });
+    let again = device.deliver(frame.as_slice(), &meta);
+    assert!(rt;
+        again
+            == Deliver::NoBuffer {
+                ring: 1,
+                position: 33,
+                word: 0x80000000,
+                look: 1
+            }
+    );
+    Ok(())
+}
+
+#[test]
+fn the_seventeenth_long_frame_finds_no_body(rt: HostRuntime) -> Result<(), AllocError> {
+    let alloc = rt.alloc();
+    let (_driver, mut device) = ListFabric::make_rx(alloc, shape(0))?;
+    let meta = RxMeta { hash: 0, kind: 0 };
+    let frame = Vec::from_elem(alloc, 9u8, 9014)?;
+    let all = delivers_all(&mut device, frame.as_slice(), &meta, 16);
+    assert!(rt; all);
+    let refused = device.deliver(frame.as_slice(), &meta);
+    assert!(rt;
+        refused
+            == Deliver::NoBuffer {
+                ring: 2,
+                position: 32,
+                word: 0x80000000,
+                look: 0
+            }
+    );
+    Ok(())
+}
+
+/// Delivers and receives the frame so many times, and gives the descriptors that the last frame had, or none where one
+/// answer was another.
+fn carries_all(
+    driver: &mut ListRxDriver,
+    device: &mut ListRxDevice,
+    frame: &[u8],
+    into: &mut Vec<u8>,
+    from: u64,
+    to: u64,
+) -> Option<u32>
+    requires frame { IsFrame frame.now }
+    requires room { 9022 ≤ vec_capacity into.old }
+    requires full { ((rx_device device.old).made.full ≡ true) × ((rx_driver driver.old).made.full ≡ true) }
+    requires small { (from ≤ to) × (to ≤ 1000) × (length (rx_device device.old).delivered ≤ 1000) × (length (rx_device device.old).refused ≤ 1000) }
+    requires positions { (consumed1 (rx_device device.old) ≤ 1000) × (consumed2 (rx_device device.old) ≤ 1000) }
+    requires received { (length (rx_driver driver.old).received ≤ 1000) × (used pieces_of (rx_driver driver.old).received ≤ 20000) }
+{
+    let meta = RxMeta { hash: 3, kind: 1 };
+    let mut last = 0;
+    for place in from..to {
+        if device.deliver(frame, &meta) != (Deliver::Done { place }) {
+            return None;
+        }
+        into.clear();
+        match driver.receive(into) {
+            Receive::NotYet { word: _ } => return None,
+            Receive::Frame {
+                place: got,
+                meta: told,
+                descriptors,
+            } => {
+                if got != place || told != meta || into.as_slice() != frame {
+                    return None;
+                }
+                last = descriptors;
+            }
+        }
+    }
+    Some(last)
+}
+
+#[test]
+fn long_frames_take_three_descriptors_across_the_wrap(rt: HostRuntime) -> Result<(), AllocError> {
+    let alloc = rt.alloc();
+    let (mut driver, mut device) = ListFabric::make_rx(alloc, shape(0))?;
+    let frame = Vec::from_elem(alloc, 5u8, 9014)?;
+    let mut into = Vec::new(alloc);
+    into.reserve(9022)?;
+    let last = carries_all(&mut driver, &mut device, frame.as_slice(), &mut into, 0, 65);
+    assert!(rt; last == Some(3));
+    Ok(())
+}
+
+#[test]
+fn short_frames_pass_a_body_over(rt: HostRuntime) -> Result<(), AllocError> {
+    let alloc = rt.alloc();
+    let (mut driver, mut device) = ListFabric::make_rx(alloc, shape(1))?;
+    let frame = Vec::from_elem(alloc, 5u8, 60)?;
+    let mut into = Vec::new(alloc);
+    into.reserve(9022)?;
+    let first = carries_all(&mut driver, &mut device, frame.as_slice(), &mut into, 0, 1);
+    assert!(rt; first == Some(1));
+    Ok(())
+}
+
+#[test]
+fn later_short_frames_post_a_passed_body_back(rt: HostRuntime) -> Result<(), AllocError> {
+    let alloc = rt.alloc();
+    let (mut driver, mut device) = ListFabric::make_rx(alloc, shape(1))?;
+    let frame = Vec::from_elem(alloc, 5u8, 60)?;
+    let mut into = Vec::new(alloc);
+    into.reserve(9022)?;
+    let last = carries_all(&mut driver, &mut device, frame.as_slice(), &mut into, 0, 20);
+    assert!(rt; last == Some(2));
+    Ok(())
+}
