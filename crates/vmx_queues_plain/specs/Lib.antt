@@ -1,0 +1,2 @@
+pub mod PlainFrames
+pub mod PlainTransmit
