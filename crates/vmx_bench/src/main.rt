@@ -1,0 +1,33 @@
+//! Work for the scripts of `bench/`, which time what the crates do, or check what they give from outside. The first
+//! word names the work and has a file of its own here, the second says how much of it, or where to write it.
+//!
+//! Without words the program does nothing and prints nothing.
+#![tactic(auto)]
+
+mod hash;
+mod link;
+mod place;
+mod samples;
+
+use anyhow::{Result, bail};
+use std::env;
+
+fn main(rt: HostRuntime) -> Result<()> {
+    let mut words = env::args(&rt)?.skip(1);
+    let Some(word) = words.next() else {
+        return Ok(());
+    };
+    let Some(what) = words.next() else {
+        bail!("usage: vmx_bench [samples FILE | hash N | link N]");
+    };
+    match (word.as_str(), what.as_str().parse::<u32>()) {
+        ("samples", _) => samples::write(&rt, what.as_str())?,
+        ("hash", Ok(count)) => {
+            let all = hash::all_hashes(count);
+            println!(rt; "{all}")?;
+        }
+        ("link", Ok(count)) => link::measure(&rt, rt.alloc(), count)?,
+        _ => bail!("usage: vmx_bench [samples FILE | hash N | link N]"),
+    }
+    Ok(())
+}
