@@ -114,6 +114,9 @@ pub fn serve<E: Counted>(machine: &mut SmallMachine<E>, regs: &mut DeviceRegs<E>
     ensures key { device_key regs.new ≡ device_key regs.old }
     ensures count { length (device_view regs.new).served ≤ length (device_view regs.old).served + 1 }
     ensures kept { result ≡ false → (device_view regs.new).served ≡ (device_view regs.old).served }
+    // Whichever it is, it was looked for: a look more that found nothing, or a turn more.
+    ensures looked { result ≡ false → length (device_view regs.new).looks ≡ length (device_view regs.old).looks + 1 }
+    ensures answered { result ≡ true → length (device_view regs.new).served ≡ length (device_view regs.old).served + 1 }
 {
     match regs.poll() {
         Poll::Quiet { word: _ } => false,
@@ -131,6 +134,7 @@ pub fn take_back<E: Handed>(regs: &mut DriverRegs<E>) -> Option<E>
     requires active { IsSome (held_after (driver_view regs.old).turns) }
     requires few { length (driver_view regs.old).turns < 2 ^ 62 }
     ensures none { result ≡ None → (driver_view regs.new).turns ≡ (driver_view regs.old).turns }
+    ensures looked { result ≡ None → length (driver_view regs.new).looks ≡ length (driver_view regs.old).looks + 1 }
     ensures keys { IfSome result (λ e. held_after (driver_view regs.old).turns ≡ Some (E.handed e).keys) }
     ensures whole { IfSome result (λ e. (E.handed e).whole ≡ true) }
 {
