@@ -69,7 +69,7 @@ last_same (a ∷ xs) [] x y e = let l = ap length e in let m = length-append xs 
 last_same (a ∷ xs) (b ∷ ys) x y e = let tail : xs ++ x ∷ [] ≡ ys ++ y ∷ [] = cc in last_same xs ys x y tail
 
 -- where the last piece is ring 2's position p, its next is the one behind
-abbrev EndsTwo : Stand → Type 0
+abbrev pub EndsTwo : Stand → Type 0
 EndsTwo a = (front : List (ℕ × ℕ)) (p : ℕ) → a.chain ≡ front ++ (2, p) ∷ [] → a.next2 ≡ suc p
 
 abbrev spot : ℕ → ℕ → ℕ × ℕ
@@ -78,7 +78,7 @@ spot a b = (a, b)
 not_one : (a b c : ℕ) → spot a b ≡ spot 2 c → a ≢ 1
 not_one a b c e z = let t : a ≡ 2 = ap (λ (s : ℕ × ℕ). s.0) e in absurd (omega arith)
 
-ends_head : (h c2 : ℕ) → EndsTwo (at_head h c2)
+pub ends_head : (h c2 : ℕ) → EndsTwo (at_head h c2)
 ends_head h c2 front p e = absurd (not_one 1 h p (last_same [] front (1, h) (2, p) e) refl)
 
 ends_two : (a : Stand) (looks : List (ℕ × ℕ)) → EndsTwo (from_two (record a { looks = looks }))
@@ -95,7 +95,7 @@ ends_further m a f = by_body f (is_body m a.next1)
     by_body (Some w) true = ends_two a (a.looks ++ (a.next1, w) ∷ [])
     by_body f false = ends_two a a.looks
 
-ends_walk : (m : RxMade) (found : List (Option ℕ)) (a : Stand) → EndsTwo a → EndsTwo (walk m a found)
+pub ends_walk : (m : RxMade) (found : List (Option ℕ)) (a : Stand) → EndsTwo a → EndsTwo (walk m a found)
 ends_walk m [] a e = e
 ends_walk m (f ∷ more) a e = ends_walk m more (further m a f) (ends_further m a f)
 

@@ -21,3 +21,4 @@ pub mod Queues
 pub mod HandedEnds
 pub mod HandedLaws
 pub mod Exactness
+pub mod CaughtUp

@@ -1,5 +1,6 @@
 -- Words for those who move frames between the two ends of a queue.
 use Rattle.std.specs.Prelude.{ℕ, suc, ◌^◌, ◌≡◌, ◌<◌, ◌≤◌, List, [], ◌∷◌, length, true}
+use mathlib.Core.List.{IsPrefix}
 use Rattle.vmx_ends.specs.Frames.{sent_of}
 use Rattle.vmx_ends.specs.TransmitClauses as tx
 use Rattle.vmx_ends.specs.Receive.{RxDriverView, RxDeviceView, used, pieces_of, consumed1, consumed2}
@@ -17,7 +18,7 @@ IsSmall d e = (length d.sent < 2 ^ 60) × (posted d < 2 ^ 60) × (length e.taken
 
 -- every delivered frame is received, and the device knows it
 abbrev pub IsCaughtUpRx : RxDriverView → RxDeviceView → Type 0
-IsCaughtUpRx d e = (d.received ≡ e.delivered) × (length d.received ≤ length e.heard)
+IsCaughtUpRx d e = (d.received ≡ e.delivered) × (length d.received ≤ length e.heard) × IsPrefix e.heard e.delivered
 
 abbrev pub IsSmallRx : RxDriverView → RxDeviceView → Type 0
 IsSmallRx d e = (length e.delivered < 2 ^ 60) × (length e.refused < 2 ^ 60) × (consumed1 e < 2 ^ 60) × (consumed2 e < 2 ^ 60) × (used pieces_of d.received < 2 ^ 60)

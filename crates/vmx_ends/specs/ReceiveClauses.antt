@@ -7,6 +7,7 @@ use Rattle.vmx_ends.specs.Receive.{RxDeviceView, RxDriverView, RxNoteView, RxVie
 use Rattle.vmx_ends.specs.Walk.{Stand, at_head, walk, pieces, AreBodies, IsHead}
 use Rattle.vmx_ends.specs.declared.made.RxMade.{RxMade}
 use Rattle.vmx_ends.specs.declared.made.RxShape.{RxShape}
+use Rattle.vmx_ends.specs.declared.packet.QueueName.{QueueName}
 use Rattle.vmx_ends.specs.declared.made.Bodies.TheVariants.{Every}
 use Rattle.vmx_ends.specs.declared.meta.RxMeta.{RxMeta}
 use Rattle.vmx_ends.specs.declared.answers.EndFault.{EndFault}
@@ -160,7 +161,11 @@ pub record IsOrdered (f : RxView) : Type 0 where
   pub within2 : used took2 f.delivered ≤ posted2 f.made f.received
   pub refused : All (IsRefusal f.made) f.refused
 
--- what a queue of this shape is made with, full
+-- what a queue that is made full is made with
+abbrev pub made_rx : QueueName → ℕ → ℕ → ℕ → ℕ → RxMade
+made_rx name size1 size2 bodies queues = record { name = name; queues = queues; size1 = size1; size2 = size2; bodies = Every bodies; full = true }
+
+-- the same of a shape
 abbrev pub made_of : RxShape → RxMade
 made_of s = record { name = s.name; queues = s.queues; size1 = s.size1; size2 = s.size2; bodies = Every s.bodies; full = true }
 

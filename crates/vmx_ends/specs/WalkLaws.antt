@@ -38,7 +38,7 @@ head_ends m (suc fuel) p = by_case (is_body m p) refl (head_ends m fuel (suc p))
 pub first_is_head : (m : RxMade) (bodies q : ℕ) → m.bodies ≡ Every bodies → q % m.size1 ≡ 0 → is_body m q ≡ false
 first_is_head m bodies q every e = ap₂ (λ (k : Bodies) (z : ℕ). is_body_index k z) every e ∙ (let low : 0 < bodies + 1 = omega arith in ap (λ (z : ℕ). not (z == 0)) (mod-eq_of_lt low))
 
-head_near : (m : RxMade) (bodies p : ℕ) → m.bodies ≡ Every bodies → 0 < m.size1 → (q : ℕ) × (p ≤ q) × (q < p + m.size1) × (is_body m q ≡ false)
+pub head_near : (m : RxMade) (bodies p : ℕ) → m.bodies ≡ Every bodies → 0 < m.size1 → (q : ℕ) × (p ≤ q) × (q < p + m.size1) × (is_body m q ≡ false)
 head_near m bodies p every pos = let s : ℕ = m.size1 in let low = mod-lt p pos in dite (ℕ_discrete (p % s) 0)
     (λ here. (p, omega arith, omega arith, first_is_head m bodies p every here))
     (λ other. let t : ℕ = p / s * s in let parts : p % s + t ≡ p = mod-add-div' p s in (t + s, omega arith, omega arith, first_is_head m bodies (t + s) every (add-mod_right t s ∙ mul-mod_left (p / s) s)))

@@ -1,8 +1,10 @@
 //! Callers that are generic in the fabric: notes both ways over one queue, and one frame through it. They are proved from
 //! the contracts of the traits alone, beginning from equal keys and different sides.
-ghost use Rattle.std.specs.Prelude.{◌≡◌, ◌≤◌, ℕ, IsTrue, [], ◌∷◌, ◌++◌, length, false, vec_len, vec_capacity};
+ghost use Rattle.std.specs.Prelude.{◌≡◌, ◌≤◌, ◌<◌, ℕ, IsTrue, [], ◌∷◌, ◌++◌, length, true, false, vec_len, vec_capacity};
 ghost use mathlib.Core.List.{IsPrefix};
 ghost use Rattle.vmx_ends.specs.Frames.{IsFrame, sent_of};
+ghost use Rattle.vmx_ends.specs.Transmit.{need};
+ghost use Rattle.vmx_ends.specs.declared.made.Bodies.TheVariants.{Every};
 ghost use Rattle.vmx_ends.specs.Queues.{IsCaughtUp, IsSmall, IsCaughtUpRx, IsSmallRx};
 
 use crate::{
@@ -29,6 +31,7 @@ pub fn pass<F: Fabric>(driver: &mut F::TxDriver, device: &mut F::TxDevice)
 }
 
 /// Carries a frame through a transmit queue from post to reap. False: the ring has fewer descriptors than it needs.
+#[tactic(auto, using(crate::specs::CaughtUp::none_in_use))]
 pub fn carry<F: Fabric>(
     driver: &mut F::TxDriver,
     device: &mut F::TxDevice,
@@ -46,6 +49,7 @@ pub fn carry<F: Fabric>(
     ensures sent { IsTrue result → (F.TxDriver.view driver.new).sent ≡ (F.TxDriver.view driver.old).sent ++ record { frame = frame.now } ∷ [] }
     ensures one { (F.TxDriver.view driver.new).key ≡ (F.TxDevice.view device.new).key }
     ensures caught_up { IsCaughtUp (F.TxDriver.view driver.new) (F.TxDevice.view device.new) }
+    ensures room { need (F.TxDriver.view driver.old).made (length frame.now) ≤ (F.TxDriver.view driver.old).made.size → IsTrue result }
 {
     match driver.post(frame) {
         Post::Full { used: _, need: _ } => false,
@@ -82,6 +86,7 @@ pub fn pass_rx<F: Fabric>(driver: &mut F::RxDriver, device: &mut F::RxDevice)
     ensures driver_heard { length (F.RxDevice.view device.old).delivered ≤ length (F.RxDriver.view driver.new).heard }
     ensures device_heard { length (F.RxDriver.view driver.old).received ≤ length (F.RxDevice.view device.new).heard }
     ensures within { IsPrefix (F.RxDriver.view driver.new).received (F.RxDevice.view device.new).delivered }
+    ensures told { IsPrefix (F.RxDevice.view device.new).heard (F.RxDevice.view device.new).delivered }
 {
     let note = device.note();
     driver.hear(note);
@@ -89,7 +94,9 @@ pub fn pass_rx<F: Fabric>(driver: &mut F::RxDriver, device: &mut F::RxDevice)
     device.hear(back);
 }
 
-/// Carries a frame through a receive queue from deliver to receive. False: a descriptor was missing.
+/// Carries a frame through a receive queue from deliver to receive. False: a descriptor was missing, which can't be where the queue
+/// was made full.
+#[tactic(auto, using(crate::specs::CaughtUp::never_refused))]
 pub fn carry_rx<F: Fabric>(
     driver: &mut F::RxDriver,
     device: &mut F::RxDevice,
@@ -107,6 +114,8 @@ pub fn carry_rx<F: Fabric>(
     ensures bytes { IsTrue result → into.new.items ≡ frame.now }
     ensures one { (F.RxDriver.view driver.new).key ≡ (F.RxDevice.view device.new).key }
     ensures caught_up { IsCaughtUpRx (F.RxDriver.view driver.new) (F.RxDevice.view device.new) }
+    ensures room { (bodies : ℕ) → (F.RxDevice.view device.old).made.full ≡ true → (F.RxDevice.view device.old).made.bodies ≡ Every bodies
+        → 0 < (F.RxDevice.view device.old).made.size1 → 2 ≤ (F.RxDevice.view device.old).made.size2 → IsTrue result }
 {
     match device.deliver(frame, meta) {
         Deliver::NoBuffer {

@@ -5,9 +5,7 @@ ghost use Rattle.vmx_ends.specs.ReceiveClauses as rx;
 ghost use Rattle.vmx_ends.specs.Queues.{made_tx};
 ghost use Rattle.vmx_ends.specs.HandedEnds.{ends_handed};
 
-use crate::{
-    QueueName, RxDevice, RxDriver, RxFacts, RxNote, RxShape, TxDevice, TxDriver, TxFacts, TxNote,
-};
+use crate::{QueueName, RxDevice, RxDriver, RxFacts, RxNote, TxDevice, TxDriver, TxFacts, TxNote};
 use std::alloc::{AllocError, Global};
 use vmx_io::{Handed, List};
 
@@ -40,16 +38,20 @@ pub trait Fabric: Send {
         requires piece { (576 ≤ piece) × (piece ≤ 4096) }
         ensures made { IfOk result (λ p. tx.AreNew (made_tx name size piece) (Self.TxDriver.view p.0) (Self.TxDevice.view p.1)) };
 
-    /// The two ends of a receive queue of the shape, both rings made full: sizes 32 to 4,096 in steps of 32, 0 to 2 BODY
-    /// descriptors behind each HEAD, 1 to 8 queues, of which this is one.
+    /// The two ends of a receive queue, both rings made full: sizes 32 to 4,096 in steps of 32, 0 to 2 BODY descriptors
+    /// behind each HEAD of ring 1, and 1 to 8 queues of the guest, of which this is one.
     fn make_rx(
         alloc: Global,
-        shape: RxShape,
+        name: QueueName,
+        size1: u32,
+        size2: u32,
+        bodies: u32,
+        queues: u32,
     ) -> Result<(Self::RxDriver, Self::RxDevice), AllocError>
-        requires sizes { (32 ≤ shape.size1) × (shape.size1 ≤ 4096) × (shape.size1 % 32 ≡ 0) × (32 ≤ shape.size2) × (shape.size2 ≤ 4096) × (shape.size2 % 32 ≡ 0) }
-        requires bodies { shape.bodies ≤ 2 }
-        requires queues { (1 ≤ shape.queues) × (shape.queues ≤ 8) × (shape.name.queue < shape.queues) }
-        ensures made { IfOk result (λ p. rx.AreNew (rx.made_of shape) (Self.RxDriver.view p.0) (Self.RxDevice.view p.1)) };
+        requires sizes { (32 ≤ size1) × (size1 ≤ 4096) × (size1 % 32 ≡ 0) × (32 ≤ size2) × (size2 ≤ 4096) × (size2 % 32 ≡ 0) }
+        requires bodies { bodies ≤ 2 }
+        requires queues { (1 ≤ queues) × (queues ≤ 8) × (name.queue < queues) }
+        ensures made { IfOk result (λ p. rx.AreNew (rx.made_rx name size1 size2 bodies queues) (Self.RxDriver.view p.0) (Self.RxDevice.view p.1)) };
 
     /// Lets the two ends of one transmit queue meet. No frame may be taken and not completed, and every note was heard.
     fn meet_tx(driver: Self::TxDriver, device: Self::TxDevice) -> Self::TxFacts

@@ -92,7 +92,21 @@ impl Fabric for ListFabric {
         tx::make(alloc, made)
     }
 
-    fn make_rx(alloc: Global, shape: RxShape) -> Result<(ListRxDriver, ListRxDevice), AllocError> {
+    fn make_rx(
+        alloc: Global,
+        name: QueueName,
+        size1: u32,
+        size2: u32,
+        bodies: u32,
+        queues: u32,
+    ) -> Result<(ListRxDriver, ListRxDevice), AllocError> {
+        let shape = RxShape {
+            name,
+            queues,
+            size1,
+            size2,
+            bodies,
+        };
         rx::make(alloc, shape)
     }
 

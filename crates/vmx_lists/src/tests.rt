@@ -9,8 +9,8 @@ ghost use Rattle.vmx_lists.specs.RxEnds.{driver_view as rx_driver, device_view a
 use crate::{ListFabric, ListRxDevice, ListRxDriver, ListTxDriver};
 use std::alloc::{AllocError, Global};
 use vmx_ends::{
-    Deliver, Fabric, Post, QueueName, Reap, Receive, RxDevice, RxDriver, RxFacts, RxMeta, RxShape,
-    Take, TxDevice, TxDriver, TxFacts,
+    Deliver, Fabric, Post, QueueName, Reap, Receive, RxDevice, RxDriver, RxFacts, RxMeta, Take,
+    TxDevice, TxDriver, TxFacts,
 };
 
 const NAME: QueueName = QueueName {
@@ -56,7 +56,7 @@ fn delivers_all(device: &mut ListRxDevice, frame: &[u8], meta: &RxMeta, count: u
 fn fresh_queues_have_nothing(rt: HostRuntime) -> Result<(), AllocError> {
     let alloc = rt.alloc();
     let (mut driver, mut device) = ListFabric::make_tx(alloc, NAME, 32, 4096)?;
-    let (mut receiver, _deliverer) = ListFabric::make_rx(alloc, shape(0))?;
+    let (mut receiver, _deliverer) = ListFabric::make_rx(alloc, NAME, 32, 32, 0, 1)?;
     let mut into = Vec::new(alloc);
     into.reserve(9022)?;
     let nothing = device.take(&mut into);
@@ -116,7 +116,7 @@ fn facts_tell_what_both_ends_did(rt: HostRuntime) -> Result<(), AllocError> {
             facts.reaped()
         ) == (0, 0, 0, 0)
     );
-    let (driver, mut device) = ListFabric::make_rx(alloc, shape(0))?;
+    let (driver, mut device) = ListFabric::make_rx(alloc, NAME, 32, 32, 0, 1)?;
     let frame = Vec::from_elem(alloc, 7u8, 60)?;
     let meta = RxMeta { hash: 7, kind: 2 };
     match device.deliver(frame.as_slice(), &meta) {
@@ -137,23 +137,10 @@ fn facts_tell_what_both_ends_did(rt: HostRuntime) -> Result<(), AllocError> {
     Ok(())
 }
 
-fn shape(bodies: u32) -> RxShape
-    requires { bodies ≤ 2 }
-    ensures { (result.bodies ≡ bodies) × (result.size1 ≡ 32) × (result.size2 ≡ 32) × (result.queues ≡ 1) × (result.name.queue ≡ 0) }
-{
-    RxShape {
-        name: NAME,
-        queues: 1,
-        size1: 32,
-        size2: 32,
-        bodies,
-    }
-}
-
 #[test]
 fn the_thirty_third_short_frame_finds_no_head(rt: HostRuntime) -> Result<(), AllocError> {
     let alloc = rt.alloc();
-    let (mut driver, mut device) = ListFabric::make_rx(alloc, shape(0))?;
+    let (mut driver, mut device) = ListFabric::make_rx(alloc, NAME, 32, 32, 0, 1)?;
     let meta = RxMeta { hash: 7, kind: 2 };
     let frame = Vec::from_elem(alloc, 9u8, 60)?;
     let mut into = Vec::new(alloc);
@@ -197,7 +184,7 @@ fn the_thirty_third_short_frame_finds_no_head(rt: HostRuntime) -> Result<(), All
 #[test]
 fn the_seventeenth_long_frame_finds_no_body(rt: HostRuntime) -> Result<(), AllocError> {
     let alloc = rt.alloc();
-    let (_driver, mut device) = ListFabric::make_rx(alloc, shape(0))?;
+    let (_driver, mut device) = ListFabric::make_rx(alloc, NAME, 32, 32, 0, 1)?;
     let meta = RxMeta { hash: 0, kind: 0 };
     let frame = Vec::from_elem(alloc, 9u8, 9014)?;
     let all = delivers_all(&mut device, frame.as_slice(), &meta, 16);
@@ -259,7 +246,7 @@ fn carries_all(
 #[test]
 fn long_frames_take_three_descriptors_across_the_wrap(rt: HostRuntime) -> Result<(), AllocError> {
     let alloc = rt.alloc();
-    let (mut driver, mut device) = ListFabric::make_rx(alloc, shape(0))?;
+    let (mut driver, mut device) = ListFabric::make_rx(alloc, NAME, 32, 32, 0, 1)?;
     let frame = Vec::from_elem(alloc, 5u8, 9014)?;
     let mut into = Vec::new(alloc);
     into.reserve(9022)?;
@@ -271,7 +258,7 @@ fn long_frames_take_three_descriptors_across_the_wrap(rt: HostRuntime) -> Result
 #[test]
 fn short_frames_pass_a_body_over(rt: HostRuntime) -> Result<(), AllocError> {
     let alloc = rt.alloc();
-    let (mut driver, mut device) = ListFabric::make_rx(alloc, shape(1))?;
+    let (mut driver, mut device) = ListFabric::make_rx(alloc, NAME, 32, 32, 1, 1)?;
     let frame = Vec::from_elem(alloc, 5u8, 60)?;
     let mut into = Vec::new(alloc);
     into.reserve(9022)?;
@@ -280,10 +267,59 @@ fn short_frames_pass_a_body_over(rt: HostRuntime) -> Result<(), AllocError> {
     Ok(())
 }
 
+/// The long frame has the positions 0 and 1 of ring 1 and 0 of ring 2. So ring 1's next is the HEAD at 2: the frame behind
+/// passes nothing over, and the third passes the BODY at 3.
+#[test]
+fn a_first_long_frame_takes_two_of_ring_1_and_one_of_ring_2(
+    rt: HostRuntime,
+) -> Result<(), AllocError> {
+    let alloc = rt.alloc();
+    let (mut driver, mut device) = ListFabric::make_rx(alloc, NAME, 32, 32, 1, 1)?;
+    let meta = RxMeta { hash: 7, kind: 2 };
+    let long = Vec::from_elem(alloc, 5u8, 9014)?;
+    let short = Vec::from_elem(alloc, 6u8, 60)?;
+    let mut into = Vec::new(alloc);
+    into.reserve(9022)?;
+    let first = device.deliver(long.as_slice(), &meta);
+    assert!(rt; first == Deliver::Done { place: 0 });
+    let all = (
+        device.deliver(short.as_slice(), &meta),
+        device.deliver(short.as_slice(), &meta),
+    );
+    assert!(rt; all == (Deliver::Done { place: 1 }, Deliver::Done { place: 2 }));
+    let got = driver.receive(&mut into);
+    assert!(rt;
+        got == Receive::Frame {
+            place: 0,
+            meta,
+            descriptors: 3
+        }
+    );
+    into.clear();
+    let got = driver.receive(&mut into);
+    assert!(rt;
+        got == Receive::Frame {
+            place: 1,
+            meta,
+            descriptors: 1
+        }
+    );
+    into.clear();
+    let got = driver.receive(&mut into);
+    assert!(rt;
+        got == Receive::Frame {
+            place: 2,
+            meta,
+            descriptors: 2
+        }
+    );
+    Ok(())
+}
+
 #[test]
 fn later_short_frames_post_a_passed_body_back(rt: HostRuntime) -> Result<(), AllocError> {
     let alloc = rt.alloc();
-    let (mut driver, mut device) = ListFabric::make_rx(alloc, shape(1))?;
+    let (mut driver, mut device) = ListFabric::make_rx(alloc, NAME, 32, 32, 1, 1)?;
     let frame = Vec::from_elem(alloc, 5u8, 60)?;
     let mut into = Vec::new(alloc);
     into.reserve(9022)?;
