@@ -1,1 +1,5 @@
 mod NeededLaws
+mod RxSteps
+mod RxWays
+mod SupplyLaws
+mod WalkOfSupplies

@@ -1,2 +1,5 @@
 pub mod PlainFrames
+pub mod PlainReceive
+pub mod PlainSupplies
 pub mod PlainTransmit
+pub mod PlainWalk

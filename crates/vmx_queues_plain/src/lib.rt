@@ -1,9 +1,12 @@
-//! The core of a transmit queue as a plain, slow program over a list: no ring, no index, no generation, no slot and no
-//! step. No program stands on it. Its tests run it beside the queue over lists, and every answer must be the same.
+//! The cores of a transmit queue and of a receive queue as plain, slow programs over lists: no ring, no index, no
+//! generation, no slot and no step. No program stands on them. The tests run them beside the queues over lists, and every
+//! answer must be the same.
 #![tactic(auto)]
 
+mod rx;
 mod tx;
 
+pub use rx::{Buffer, Delivered, PlainRx, Received, RxFrame, Supply};
 pub use tx::{PlainTx, Reaped};
 
 #[cfg(test)]

@@ -1,14 +1,21 @@
-//! The queue over lists beside the plain one, event by event.
-ghost use Rattle.std.specs.Prelude.{◌≡◌, ◌≤◌, ◌<◌, ◌+◌, ◌*◌, ◌^◌, length, true, false, vec_len, vec_capacity};
+//! The queues over lists beside the plain ones, event by event, and the readers of their facts after all.
+ghost use Rattle.std.specs.Prelude.{◌≡◌, ◌≤◌, ◌<◌, ◌+◌, ◌*◌, ◌%◌, ◌^◌, length, true, false, vec_len, vec_capacity};
 ghost use Rattle.vmx_ends.specs.Frames.{IsFrame};
 ghost use Rattle.vmx_ends.specs.Transmit.{posted, found_in};
-ghost use Rattle.vmx_ends.specs.TransmitClauses.{IsIdle};
+ghost use Rattle.vmx_ends.specs.TransmitClauses.{IsIdle, AreEven};
+ghost use Rattle.vmx_ends.specs.Receive.{used, pieces_of, consumed1, consumed2};
+ghost use Rattle.vmx_ends.specs.ReceiveClauses.{AreEven as AreEvenRx};
 ghost use Rattle.vmx_lists.specs.TxEnds.{driver_view, device_view};
+ghost use Rattle.vmx_lists.specs.RxEnds.{driver_view as rx_driver, device_view as rx_device};
 
-use crate::{PlainTx, Reaped};
+use crate::{Delivered, PlainRx, PlainTx, Reaped, Received};
 use std::alloc::{AllocError, Global};
-use vmx_ends::{Fabric, Post, QueueName, Reap, Take, TxDevice, TxDriver, TxMade};
-use vmx_lists::{ListFabric, ListTxDevice, ListTxDriver};
+use vmx_ends::{
+    Deliver, Fabric, Post, QueueName, Reap, Receive, RxDevice, RxDriver, RxFacts, RxMeta, RxShape,
+    Take, TxDevice, TxDriver, TxFacts, TxMade,
+};
+use vmx_genring::Ring;
+use vmx_lists::{ListFabric, ListRxDevice, ListRxDriver, ListTxDevice, ListTxDriver};
 
 /// What happens, in order: 0 reaps, 1 takes and completes, and each other number posts a frame of so many bytes.
 const EVENTS: [usize; 64] = [
@@ -25,6 +32,8 @@ fn serves(device: &mut ListTxDevice, into: &mut Vec<u8>) -> Option<u64>
     requires room { 9022 ≤ vec_capacity into.old }
     ensures idle { IsIdle (device_view device.new) }
     ensures full { (device_view device.new).made.full ≡ true }
+    ensures key { (device_view device.new).key ≡ (device_view device.old).key }
+    ensures notes { ((device_view device.new).notes_given ≡ (device_view device.old).notes_given) × ((device_view device.new).notes_heard ≡ (device_view device.old).notes_heard) }
     ensures grows { (length (device_view device.new).taken ≤ length (device_view device.old).taken + 1) × (found_in (device_view device.new).taken ≤ found_in (device_view device.old).taken + 16) }
     ensures room { 9022 ≤ vec_capacity into.new }
 {
@@ -54,9 +63,13 @@ fn step(
     requires at { at ≤ 1000 }
     requires driver { (length (driver_view driver.old).sent ≤ at) × (posted (driver_view driver.old) ≤ 16 * at) × ((driver_view driver.old).reaped ≤ at) }
     requires device { (length (device_view device.old).taken ≤ at) × (found_in (device_view device.old).taken ≤ 16 * at) }
+    requires one { (driver_view driver.old).key ≡ (device_view device.old).key }
+    requires even { AreEven (driver_view driver.old) (device_view device.old) }
     requires idle { IsIdle (device_view device.old) }
     requires full { (device_view device.old).made.full ≡ true }
     requires room { (9022 ≤ vec_capacity listed.old) × (9022 ≤ vec_capacity plainly.old) }
+    ensures one { (driver_view driver.new).key ≡ (device_view device.new).key }
+    ensures even { AreEven (driver_view driver.new) (device_view device.new) }
     ensures driver { (length (driver_view driver.new).sent ≤ at + 1) × (posted (driver_view driver.new) ≤ 16 * (at + 1)) × ((driver_view driver.new).reaped ≤ at + 1) }
     ensures device { (length (device_view device.new).taken ≤ at + 1) × (found_in (device_view device.new).taken ≤ 16 * (at + 1)) }
     ensures idle { IsIdle (device_view device.new) }
@@ -120,5 +133,211 @@ fn the_queue_over_lists_answers_as_the_plain_one(rt: HostRuntime) -> Result<(), 
         )?;
         assert!(rt; same);
     }
+    let facts = ListFabric::meet_tx(driver, device);
+    assert!(rt; facts.name() == NAME);
+    assert!(rt; facts.sent() == plain.sent.len() as u64);
+    assert!(rt; facts.taken() == plain.taken as u64);
+    assert!(rt; facts.completed() == plain.completed as u64);
+    assert!(rt; facts.reaped() == plain.reaped as u64);
+    Ok(())
+}
+
+/// What happens to a receive queue, in order: 0 receives, and each other number delivers a frame of so many bytes.
+const ARRIVALS: [usize; 96] = [
+    2048, 1514, 1514, 1514, 0, 0, 0, 0, 0, 0, 0, 0, 0, 0, 9022, 9014, 60, 2048, 60, 1514, 2048,
+    1514, 9022, 9014, 9022, 4096, 6144, 9000, 14, 0, 0, 60, 0, 2048, 9014, 6144, 9022, 0, 60, 60,
+    0, 0, 9014, 6145, 9000, 4096, 6144, 9000, 6145, 6144, 2049, 9000, 6144, 6145, 0, 0, 9000, 9014,
+    1514, 60, 0, 0, 6144, 0, 9000, 60, 14, 6144, 0, 4096, 60, 9014, 2049, 60, 60, 9022, 2048, 0,
+    9022, 0, 0, 9000, 0, 0, 9014, 0, 2049, 14, 14, 14, 9022, 6144, 14, 6145, 0, 0,
+];
+
+/// Descriptors of ring 1 and of ring 2, and BODY descriptors behind each HEAD. The events above find every one of these
+/// somewhere: too few heads, too few bodies of ring 2, bodies that are passed over, both laps of both rings.
+const SHAPES: [(u32, u32, u32); 5] = [
+    (32, 32, 0),
+    (32, 32, 1),
+    (64, 32, 1),
+    (32, 64, 2),
+    (96, 32, 0),
+];
+
+/// The word that a refused look of a queue over lists shows: bit 31 is not the position's generation, and no other is set.
+fn missed(shape: &RxShape, ring: u32, position: u64) -> u64
+    requires sizes { (0 < shape.now.size1) × (shape.now.size1 ≤ 4096) × (0 < shape.now.size2) × (shape.now.size2 ≤ 4096) }
+{
+    let shape = *shape;
+    let size = if ring == 1 { shape.size1 } else { shape.size2 };
+    if Ring::new(size).generation(position) {
+        0
+    } else {
+        1 << 31
+    }
+}
+
+/// One event at both: whether all answers and all bytes were the same.
+fn arrives(
+    alloc: Global,
+    at: u64,
+    event: usize,
+    driver: &mut ListRxDriver,
+    device: &mut ListRxDevice,
+    plain: &mut PlainRx,
+    listed: &mut Vec<u8>,
+    plainly: &mut Vec<u8>,
+) -> Result<bool, AllocError>
+    requires event { event ≤ 9022 }
+    requires at { at ≤ 1000 }
+    requires one { (rx_driver driver.old).key ≡ (rx_device device.old).key }
+    requires even { AreEvenRx (rx_driver driver.old) (rx_device device.old) }
+    requires driver { (length (rx_driver driver.old).received ≤ at) × (used pieces_of (rx_driver driver.old).received ≤ 16 * at) }
+    requires device { (length (rx_device device.old).delivered ≤ at) × (length (rx_device device.old).refused ≤ at) }
+    requires positions { (consumed1 (rx_device device.old) ≤ 16 * at) × (consumed2 (rx_device device.old) ≤ 16 * at) }
+    requires plain { (plain.old.one.left ≤ 16 * at) × (plain.old.two.left ≤ 16 * at) }
+    requires full { ((rx_driver driver.old).made.full ≡ true) × ((rx_device device.old).made.full ≡ true) }
+    requires room { (9022 ≤ vec_capacity listed.old) × (9022 ≤ vec_capacity plainly.old) }
+    ensures one { (rx_driver driver.new).key ≡ (rx_device device.new).key }
+    ensures even { AreEvenRx (rx_driver driver.new) (rx_device device.new) }
+    ensures driver { (length (rx_driver driver.new).received ≤ at + 1) × (used pieces_of (rx_driver driver.new).received ≤ 16 * (at + 1)) }
+    ensures device { (length (rx_device device.new).delivered ≤ at + 1) × (length (rx_device device.new).refused ≤ at + 1) }
+    ensures positions { (consumed1 (rx_device device.new) ≤ 16 * (at + 1)) × (consumed2 (rx_device device.new) ≤ 16 * (at + 1)) }
+    ensures plain { (plain.new.one.left ≤ 16 * (at + 1)) × (plain.new.two.left ≤ 16 * (at + 1)) }
+    ensures full { ((rx_driver driver.new).made.full ≡ true) × ((rx_device device.new).made.full ≡ true) }
+    ensures room { (9022 ≤ vec_capacity listed.new) × (9022 ≤ vec_capacity plainly.new) }
+{
+    if event < 14 {
+        listed.clear();
+        plainly.clear();
+        let got = driver.receive(listed);
+        let same = match plain.receive(alloc, plainly)? {
+            Some(
+                Received {
+                    place,
+                    meta,
+                    descriptors,
+                },
+            ) => {
+                got == (Receive::Frame {
+                    place,
+                    meta,
+                    descriptors,
+                })
+            }
+            None => matches!(got, Receive::NotYet { word: _ }),
+        };
+        return Ok(same && listed.as_slice() == plainly.as_slice());
+    }
+    let frame = Vec::from_elem(alloc, (at % 251) as u8, event)?;
+    let meta = RxMeta {
+        hash: at as u32,
+        kind: (at % 5) as u32,
+    };
+    let got = device.deliver(frame.as_slice(), &meta);
+    Ok(match plain.deliver(alloc, frame.as_slice(), &meta)? {
+        Delivered::Done { place } => got == (Deliver::Done { place }),
+        Delivered::NoBuffer {
+            ring,
+            position,
+            look,
+        } => {
+            got == (Deliver::NoBuffer {
+                ring,
+                position,
+                word: missed(&plain.shape, ring, position),
+                look,
+            })
+        }
+    })
+}
+
+/// Whether all events over a queue of this shape, and then the readers of its facts, are the plain program's.
+fn arrive_alike(alloc: Global, shape: RxShape) -> Result<bool, AllocError>
+    requires sizes { (32 ≤ shape.size1) × (shape.size1 ≤ 4096) × (shape.size1 % 32 ≡ 0) × (32 ≤ shape.size2) × (shape.size2 ≤ 4096) × (shape.size2 % 32 ≡ 0) }
+    requires bodies { shape.bodies ≤ 2 }
+    requires queues { (shape.queues ≡ 1) × (shape.name.queue ≡ 0) }
+{
+    let (mut driver, mut device) = ListFabric::make_rx(
+        alloc,
+        shape.name,
+        shape.size1,
+        shape.size2,
+        shape.bodies,
+        shape.queues,
+    )?;
+    let mut plain = PlainRx::new(alloc, shape)?;
+    let mut listed = Vec::new(alloc);
+    listed.reserve(9022)?;
+    let mut plainly = Vec::new(alloc);
+    plainly.reserve(9022)?;
+    for at in 0..96u64 {
+        let event = ARRIVALS[at as usize];
+        if event > 9022 {
+            return Ok(false);
+        }
+        let same = arrives(
+            alloc,
+            at,
+            event,
+            &mut driver,
+            &mut device,
+            &mut plain,
+            &mut listed,
+            &mut plainly,
+        )?;
+        if !same {
+            return Ok(false);
+        }
+    }
+    let facts = ListFabric::meet_rx(driver, device);
+    Ok(
+        facts.name() == shape.name
+            && facts.delivered() == plain.delivered.len() as u64
+            && facts.received() == plain.received as u64
+            && facts.refused() == plain.refused.len() as u64,
+    )
+}
+
+#[test]
+fn the_receive_queue_over_lists_answers_as_the_plain_one(
+    rt: HostRuntime,
+) -> Result<(), AllocError> {
+    let alloc = rt.alloc();
+    for (size1, size2, bodies) in SHAPES {
+        assert!(rt; 32 <= size1 && size1 <= 4096 && size1 % 32 == 0);
+        assert!(rt; 32 <= size2 && size2 <= 4096 && size2 % 32 == 0);
+        assert!(rt; bodies <= 2);
+        let shape = RxShape {
+            name: NAME,
+            queues: 1,
+            size1,
+            size2,
+            bodies,
+        };
+        let same = arrive_alike(alloc, shape)?;
+        assert!(rt; same, "{size1} {size2} {bodies}");
+    }
+    Ok(())
+}
+
+#[test]
+fn a_first_long_frame_takes_two_of_ring_1_and_one_of_ring_2(
+    rt: HostRuntime,
+) -> Result<(), AllocError> {
+    let alloc = rt.alloc();
+    let shape = RxShape {
+        name: NAME,
+        queues: 1,
+        size1: 32,
+        size2: 32,
+        bodies: 1,
+    };
+    let mut plain = PlainRx::new(alloc, shape)?;
+    let frame = Vec::from_elem(alloc, 5u8, 9014)?;
+    let meta = RxMeta { hash: 3, kind: 1 };
+    let first = plain.deliver(alloc, frame.as_slice(), &meta)?;
+    assert!(rt; first == Delivered::Done { place: 0 });
+    assert!(rt; plain.delivered.len() == 1);
+    let first = plain.delivered.at(0);
+    assert!(rt; first.passed == 0);
+    assert!(rt; first.chain.as_slice() == [(1u32, 0u64), (1, 1), (2, 0)].as_slice());
     Ok(())
 }
