@@ -1,13 +1,30 @@
-//! The plan of a replay, the verdict on each captured frame, and what a replay tells of its frames.
+//! What a replay accounts for: the plan, the verdict on each captured frame, journals and fates, and the laws on them.
+//!
+//! A guest or a plan whose numbers are known at run time alone is made by `GuestPlan::of` or `Plan::of`, which test its ranges.
 #![tactic(auto)]
 
-mod accounts;
-mod plans;
+mod deeds;
+mod guest;
+mod guest_checks;
+mod guest_parts;
+mod journal;
+mod laws;
+mod makers;
+mod plan;
+mod plan_checks;
+mod sending;
+mod steps;
 mod verdicts;
 
-pub use accounts::{Fate, Received, Record};
-pub use plans::{GuestPlan, Plan};
-pub use verdicts::{Sending, verdict, verdict_of};
+pub use deeds::{Action, Deed};
+pub use guest::GuestPlan;
+pub use guest_parts::GuestParts;
+pub use journal::{Entry, Fate, Journal, Received, Way};
+pub use laws::{bags_tell, law_of_parts, nothing_is_left, runs_in_order};
+pub use plan::Plan;
+pub use sending::Sending;
+pub use steps::{entries_add, frames_add, journal_grows, run_goes_on};
+pub use verdicts::verdict;
 
 #[cfg(test)]
 mod tests;

@@ -1,30 +1,18 @@
-//! The verdict on a captured frame: whether its guest sends it, and then in which activation, on which transmit queue
-//! and as which frame of that queue. A frame is sent where it has at least 14 bytes, an Ethernet header, and at most
-//! 18 more than the MTU, that header and a VLAN tag.
+//! The verdict on a captured frame, by the plan alone. A frame is sent where its guest is not quiesced and it has at least 14 bytes, an
+//! Ethernet header, and at most 18 more than the MTU, that header and a VLAN tag. No call takes memory.
 
-ghost use Rattle.std.specs.Prelude.{◌≡◌, ◌+◌, ◌<◌, ◌&&◌, ℕ, Some, nat_le, length, slice_get, count_by};
-ghost use Rattle.vmx_model.specs.Verdict.{is_sent, sending_of, verdict_on};
+ghost use Rattle.std.specs.Prelude.{◌≡◌, ◌<◌, ℕ, false, Some, length, slice_get};
+ghost use Rattle.vmx_model.specs.Types.{Stamped as StampedValue, GuestPlan as GuestValue};
+ghost use Rattle.vmx_model.specs.Deeds.{begins as begins_of, quiet_after as quiet_by, is_quiet};
+ghost use Rattle.vmx_model.specs.PlanSteps.{goes_at};
+ghost use Rattle.vmx_model.specs.Plan.{past, activation_at as activation_by, is_down as is_down_by, place_of as place_by, captured_as, verdict_on};
 
-use crate::plans::{GuestPlan, Plan};
-use vmx_pcap::Stamped;
-
-/// What becomes of a captured frame before any queue.
-#[derive(Clone, Copy, Debug, PartialEq, Eq)]
-pub enum Sending {
-    /// The guest's driver is quiesced. A guest without a script never is.
-    Down,
-    /// The frame has fewer than 14 bytes.
-    Short,
-    /// The frame has more than 18 bytes above the MTU.
-    TooLong,
-    /// The frame is sent: in this activation, counted from 0, on this transmit queue, with so many frames sent there
-    /// before it.
-    Sent {
-        activation: u32,
-        queue: u32,
-        place: u64,
-    },
-}
+use crate::deeds::{Action, Deed};
+use crate::guest::GuestPlan;
+use crate::plan::Plan;
+use crate::sending::Sending;
+use vmx_frame::flow;
+use vmx_rss::tx_queue;
 
 /// The length of an Ethernet header, in bytes.
 const SHORTEST: usize = 14;
@@ -32,60 +20,120 @@ const SHORTEST: usize = 14;
 /// The bytes that a frame may have above the MTU: an Ethernet header and a VLAN tag.
 const ABOVE_MTU: u64 = 18;
 
-/// The verdict on captured frame `frame` of guest `guest`, both counted from 0. It goes over all earlier frames: who
-/// wants the verdicts on all keeps the place and calls `verdict_of`.
+/// The verdict on captured frame `frame` of guest `guest`, both counted from 0. It goes over all earlier frames.
 pub fn verdict(plan: &Plan, guest: u32, frame: u32) -> Sending
     requires guest { guest < length plan.now.guests }
-    requires frame { (g : GuestPlan) → slice_get plan.now.guests guest ≡ Some g → frame < length g.capture.records }
-    ensures verdict { (g : GuestPlan) (r : Stamped) → slice_get plan.now.guests guest ≡ Some g → slice_get g.capture.records frame ≡ Some r
-        → result ≡ verdict_on g.mtu g.capture.records frame r }
+    requires frame { (g : GuestValue) → slice_get plan.now.guests guest ≡ Some g → frame < length g.capture.records }
+    ensures verdict { (g : GuestValue) (r : StampedValue) → slice_get plan.now.guests guest ≡ Some g → slice_get g.capture.records frame ≡ Some r
+        → result ≡ verdict_on g (captured_as frame r) }
 {
-    verdict_in(&plan.guests.as_slice()[guest as usize], frame as usize)
+    verdict_in(&plan.guests.as_slice()[guest as usize], frame)
 }
 
-fn verdict_in(plan: &GuestPlan, frame: usize) -> Sending
+fn verdict_in(plan: &GuestPlan, frame: u32) -> Sending
     requires { frame < length plan.now.capture.records }
-    ensures verdict { (r : Stamped) → slice_get plan.now.capture.records frame ≡ Some r
-        → result ≡ verdict_on plan.now.mtu plan.now.capture.records frame r }
+    ensures verdict { (r : StampedValue) → slice_get plan.now.capture.records frame ≡ Some r
+        → result ≡ verdict_on plan.now (captured_as frame r) }
 {
-    let records = plan.capture.records.as_slice();
-    let (earlier, _) = records.split_at(frame);
-    verdict_of(
-        plan.mtu,
-        sent_count(plan.mtu, earlier),
-        records[frame].frame.len(),
-    )
-}
-
-/// How many of the frames are sent.
-fn sent_count(mtu: u32, records: &[Stamped]) -> u64
-    ensures count { result ≡ count_by (is_sent mtu) records.now }
-{
-    records
-        .iter()
-        .filter(|r| is_sent_length(mtu, r.frame.len()))
-        .count() as u64
-}
-
-fn is_sent_length(mtu: u32, len: usize) -> bool
-    ensures sent { result ≡ (nat_le 14 len && nat_le len (mtu + 18)) }
-{
-    SHORTEST <= len && len as u64 <= u64::from(mtu) + ABOVE_MTU
-}
-
-/// The verdict on a frame of `len` bytes, at this MTU, where `earlier` frames were sent before it.
-pub fn verdict_of(mtu: u32, earlier: u64, len: usize) -> Sending
-    ensures verdict { result ≡ sending_of mtu earlier len }
-{
-    if len < SHORTEST {
+    if is_down(plan, frame) {
+        return Sending::Down;
+    }
+    let bytes = plan.capture.records.as_slice()[frame as usize]
+        .frame
+        .as_slice();
+    if bytes.len() < SHORTEST {
         return Sending::Short;
     }
-    if len as u64 > u64::from(mtu) + ABOVE_MTU {
+    if bytes.len() as u64 > u64::from(plan.setup.mtu) + ABOVE_MTU {
         return Sending::TooLong;
     }
+    let activation = activation_at(plan, frame);
+    let queue = tx_queue(&flow(bytes), u32::from(plan.setup.tx_queues));
     Sending::Sent {
-        activation: 0,
-        queue: 0,
-        place: earlier,
+        activation,
+        queue,
+        place: place_of(plan, activation, queue, frame),
     }
+}
+
+/// Whether the guest is quiesced at a captured number.
+fn is_down(plan: &GuestPlan, number: u32) -> bool
+    ensures down { result ≡ is_down_by plan.now number }
+{
+    is_quiet_at(plan.script.as_slice(), number)
+}
+
+#[tactic(auto, using(crate::specs::PlanSteps::quiet_done, crate::specs::PlanSteps::quiet_skipped))]
+fn is_quiet_at(script: &[Action], number: u32) -> bool
+    ensures quiet { result ≡ is_quiet false (past number script.now) }
+{
+    let mut quiet = false;
+    for action in script {
+        if action.at <= number {
+            quiet = quiet_after(quiet, &action.deed);
+        }
+    }
+    quiet
+}
+
+/// Whether a guest is quiesced after a deed.
+pub(crate) fn quiet_after(quiet: bool, deed: &Deed) -> bool
+    ensures quiet { result ≡ quiet_by quiet deed.now }
+{
+    match deed {
+        Deed::Quiesce => true,
+        Deed::Activate => false,
+        Deed::Reset
+        | Deed::Mode { .. }
+        | Deed::Multicast { .. }
+        | Deed::Vlans { .. }
+        | Deed::Rss { .. } => quiet,
+    }
+}
+
+/// The activation of the guest at a captured number, counted from 0.
+fn activation_at(plan: &GuestPlan, number: u32) -> u32
+    ensures activation { result ≡ activation_by plan.now number }
+{
+    plan.script
+        .as_slice()
+        .iter()
+        .filter(|action| action.at <= number)
+        .filter(|action| begins(&action.deed))
+        .count() as u32
+}
+
+fn begins(deed: &Deed) -> bool
+    ensures begins { result ≡ begins_of deed.now }
+{
+    matches!(deed, Deed::Activate | Deed::Reset)
+}
+
+#[tactic(auto, using(crate::specs::PlanSteps::place_step, crate::specs::PlanSteps::place_low))]
+/// How many frames before this number are sent on this queue of this activation.
+fn place_of(plan: &GuestPlan, activation: u32, queue: u32, frame: u32) -> u64
+    requires { frame < length plan.now.capture.records }
+    ensures place { result ≡ place_by plan.now activation queue frame }
+{
+    let mut place = 0;
+    for number in 0..frame {
+        if goes_on(plan, activation, queue, number) {
+            place += 1;
+        }
+    }
+    place
+}
+
+fn goes_on(plan: &GuestPlan, activation: u32, queue: u32, number: u32) -> bool
+    requires { number < length plan.now.capture.records }
+    ensures goes { result ≡ goes_at plan.now activation queue number }
+{
+    let bytes = plan.capture.records.as_slice()[number as usize]
+        .frame
+        .as_slice();
+    !is_down(plan, number)
+        && SHORTEST <= bytes.len()
+        && bytes.len() as u64 <= u64::from(plan.setup.mtu) + ABOVE_MTU
+        && activation_at(plan, number) == activation
+        && tx_queue(&flow(bytes), u32::from(plan.setup.tx_queues)) == queue
 }

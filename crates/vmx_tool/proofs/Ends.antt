@@ -5,14 +5,14 @@ use Rattle.vmx_io.specs.declared.outside.Save.TheVariants as save
 use Rattle.vmx_io.specs.Outside.{with_file, with_text, ChangedOnly, Rose}
 use Rattle.vmx_io.specs.Answers.{Writes, SaveCounts}
 use Rattle.vmx_pcap.specs.Written.{capture_bytes}
-use Rattle.vmx_model.specs.declared.accounts.Record.{Record}
-use Rattle.vmx_model.specs.Verdict.{sent_frames}
 use Rattle.vmx_tool.specs.declared.load.Stop.{Stop}
 use Rattle.vmx_tool.specs.declared.load.Stop.TheVariants as stop
 use Rattle.vmx_tool.specs.declared.status.Outcome.{Outcome}
 use Rattle.vmx_tool.specs.declared.status.Status.{Status}
 use Rattle.vmx_tool.specs.declared.status.Status.TheVariants as status
+use Rattle.vmx_tool.specs.declared.«record».Record.{Record}
 use Rattle.vmx_tool.specs.Words.{pair_of}
+use Rattle.vmx_tool.specs.Fates.{sent_records}
 use Rattle.vmx_tool.specs.Lines.{usage_lines, write_line, memory_line, line_of}
 use Rattle.vmx_tool.specs.Summary.{summary}
 use Rattle.vmx_tool.specs.Ends.{World, Says, SaysPart, SaysFound, SaysBoth, SaysNoMemory, Refuses, Finishes, Replays, StoppedBy, Ends, Loaded, LoadedCounts, status_of}
@@ -91,7 +91,7 @@ stopped view line o words why from to w v (inr (e, part, le)) is none names caus
 pub starved : (o : Outcome) (words : List (List ℕ)) (w v : World) → o.status ≡ status.NoMemory → o.account ≡ None → SaysNoMemory w.text v.text w.prints v.prints → v.files ≡ w.files → v.writes ≡ w.writes → Ends o.status o.account words w v
 starved o words w v e none said files writes = subst (λ s. Ends s o.account words w v) (sym e) (inl (record { files = files; writes = writes; account_is = none; said = said.0 }))
 
-by_end : (s : Status) (account : Option Record) (words : List (List ℕ)) (w v : World) (r : Replays words w.files account) → v.reads ≡ w.reads → Finishes s r.to (capture_bytes (sent_frames 1500 r.records)) (summary 1500 r.records r.tail) w v → Ends s account words w v
+by_end : (s : Status) (account : Option Record) (words : List (List ℕ)) (w v : World) (r : Replays words w.files account) → v.reads ≡ w.reads → Finishes s r.to (capture_bytes (sent_records r.planned.a)) (summary r.planned.a) w v → Ends s account words w v
 by_end status.Ok account words w v r reads f = record { replays = r; reads = reads; ends = f }
 by_end status.WriteFault account words w v r reads f = record { replays = r; reads = reads; ends = f }
 by_end status.NoMemory account words w v r reads f = inr (record { replays = r; reads = reads; ends = f })
@@ -104,7 +104,7 @@ pub same_world : (w u : World) → u.files ≡ w.files → u.text ≡ w.text →
 same_world w u files text reads writes prints i = record { files = files i; text = text i; reads = reads i; writes = writes i; prints = prints i }
 
 -- the replay was finished; u is the outside after the load
-pub finished : (s : Status) (account : Option Record) (words : List (List ℕ)) (file lines : List ℕ) (w u v : World) (r : Replays words w.files account) → u ≡ w → v.reads ≡ u.reads → file ≡ capture_bytes (sent_frames 1500 r.records) → lines ≡ summary 1500 r.records r.tail → Finishes s r.to file lines u v → Ends s account words w v
+pub finished : (s : Status) (account : Option Record) (words : List (List ℕ)) (file lines : List ℕ) (w u v : World) (r : Replays words w.files account) → u ≡ w → v.reads ≡ u.reads → file ≡ capture_bytes (sent_records r.planned.a) → lines ≡ summary r.planned.a → Finishes s r.to file lines u v → Ends s account words w v
 finished s account words file lines w u v r same reads file_is lines_are f =
-    by_end s account words w v r (reads ∙ ap (λ x. x.reads) same) (subst (λ x. Finishes s r.to (capture_bytes (sent_frames 1500 r.records)) (summary 1500 r.records r.tail) x v) same
-    (subst (λ l. Finishes s r.to (capture_bytes (sent_frames 1500 r.records)) l u v) lines_are (subst (λ b. Finishes s r.to b lines u v) file_is f)))
+    by_end s account words w v r (reads ∙ ap (λ x. x.reads) same) (subst (λ x. Finishes s r.to (capture_bytes (sent_records r.planned.a)) (summary r.planned.a) x v) same
+    (subst (λ l. Finishes s r.to (capture_bytes (sent_records r.planned.a)) l u v) lines_are (subst (λ b. Finishes s r.to b lines u v) file_is f)))

@@ -1,4 +1,6 @@
 pub mod Threads
+pub mod Sizes
+pub mod Verdicts
 pub mod Fates
 pub mod Said
 pub mod Ends

@@ -1,14 +1,14 @@
 -- When each refusal must come.
 use Rattle.std.proofs.Common.{◌≡◌, ◌⊎◌, ℕ, ◌≤◌, ◌<◌, List, length, Option, Some, None, refl, sym, ap, ◌∙◌, subst, arith, inl, inr}
-use Rattle.vmx_io.specs.Outside.{Files, WhereTold, content, Rose}
+use Rattle.vmx_io.specs.Outside.{Files, content, Rose}
 use Rattle.vmx_pcap.specs.declared.records.Stamped.{Stamped}
 use Rattle.vmx_pcap.specs.declared.fault.CaptureFault.{CaptureFault}
 use Rattle.vmx_pcap.specs.declared.fault.CaptureFault.TheVariants.{Header, Form, Memory}
 use Rattle.vmx_pcap.specs.Faults.{HasFault}
 use Rattle.vmx_pcap.specs.Unique.{capture_or_fault}
-use Rattle.vmx_model.specs.declared.accounts.Record.{Record}
 use Rattle.vmx_tool.specs.declared.status.Status.{Status}
 use Rattle.vmx_tool.specs.declared.status.Status.TheVariants as status
+use Rattle.vmx_tool.specs.declared.«record».Record.{Record}
 use Rattle.vmx_tool.specs.Words.{pair_of}
 use Rattle.vmx_tool.specs.Ends.{World, Ends, Replays, HoldsCapture, EndsAt, EndsAtOneOf}
 
@@ -42,7 +42,7 @@ not_long words w account from to files r names told long =
 no_fault : (words : List (List ℕ)) (w : World) (account : Option Record) (from to : List ℕ) (files : Files) (e : CaptureFault) → Replays words w.files account → pair_of words ≡ Some (from, to) → w.files ≡ Some files → HasFault e (content files from) 262144 → e ≡ Memory
 no_fault words w account from to files e r names told fault =
     let held = r.captured files told in
-    capture_or_fault (content files r.from) 262144 r.records r.tail e held.capture r.few (subst (λ n. HasFault e (content files n) 262144) (sym (same_from words r.from r.to from to r.words_are names)) fault)
+    capture_or_fault (content files r.from) 262144 r.capture.records r.capture.tail e held.capture r.few (subst (λ n. HasFault e (content files n) 262144) (sym (same_from words r.from r.to from to r.words_are names)) fault)
 
 pub too_long_only : (s : Status) (account : Option Record) (words : List (List ℕ)) (w v : World) → Ends s account words w v → (from to : List ℕ) (files : Files) → pair_of words ≡ Some (from, to) → w.files ≡ Some files → 67108864 < length (content files from) → EndsAtOneOf s status.TooLong status.ReadFault
 too_long_only status.Ok account words w v h from to files names told long = absurd (not_long words w account from to files h.replays names told long)

@@ -2,27 +2,32 @@
 use Rattle.std.specs.Prelude.{◌≡◌, ◌⊎◌, ℕ, ◌<◌, ◌≤◌, List, length, take, codes, Option, Some, None, Result, Ok, Err}
 use Rattle.vmx_io.specs.Outside.{Files, WhereTold, content, with_file, with_text, ChangedOnly, Rose}
 use Rattle.vmx_pcap.specs.declared.records.Stamped.{Stamped}
+use Rattle.vmx_pcap.specs.declared.records.Capture.{Capture}
 use Rattle.vmx_pcap.specs.declared.fault.CaptureFault.TheVariants as fault
 use Rattle.vmx_pcap.specs.Capture.{IsCapture}
 use Rattle.vmx_pcap.specs.Faults.{HasFault}
 use Rattle.vmx_pcap.specs.Written.{capture_bytes}
-use Rattle.vmx_model.specs.declared.accounts.Record.{Record}
-use Rattle.vmx_model.specs.Verdict.{sent_frames}
-use Rattle.vmx_model.specs.Fates.{AreFates, handed_up}
+use Rattle.vmx_model.specs.declared.plan.Plan.{Plan}
 use Rattle.vmx_tool.specs.declared.load.ReadCapture.{ReadCapture}
 use Rattle.vmx_tool.specs.declared.load.Stop.{Stop}
 use Rattle.vmx_tool.specs.declared.load.Stop.TheVariants as stop
 use Rattle.vmx_tool.specs.declared.status.Outcome.{Outcome}
 use Rattle.vmx_tool.specs.declared.status.Status.{Status}
 use Rattle.vmx_tool.specs.declared.status.Status.TheVariants as status
+use Rattle.vmx_tool.specs.declared.«record».Record.{Record}
 use Rattle.vmx_tool.specs.Words.{pair_of}
+use Rattle.vmx_tool.specs.Plan.{IsPairPlan}
+use Rattle.vmx_tool.specs.Fates.{Accounts, sent_records}
 use Rattle.vmx_tool.specs.Lines.{usage_lines, write_line, memory_line, line_of}
 use Rattle.vmx_tool.specs.Summary.{summary}
 
--- the record of these captured frames: each has its fate by the verdict on it, and the sent ones are handed up in order
-pub record Accounts (records : List Stamped) (account : Record) : Type 0 where
-  pub fates : AreFates 1500 records account.fates
-  pub received : account.received ≡ handed_up 0 (sent_frames 1500 records)
+-- what a replay by the plan of `pair` leaves: the record, the file and the summary
+pub record IsReplay (capture : Capture) (account : Record) (file lines : List ℕ) : Type 0 where
+  pub plan : Plan
+  pub planned : IsPairPlan capture plan
+  pub accounts : Accounts planned.a account
+  pub file_is : file ≡ capture_bytes (sent_records planned.a)
+  pub lines_are : lines ≡ summary planned.a
 
 -- the outside at one moment
 pub record World : Type 0 where
@@ -101,24 +106,25 @@ Finishes status.Capture to file line w v = ⊥
 Finishes status.TooLong to file line w v = ⊥
 Finishes status.ReadFault to file line w v = ⊥
 
--- the capture IN was read and replayed, and this is its record
+-- the capture IN was read, and this is its record by the plan of `pair`
 pub record Replays (words : List (List ℕ)) (files : Option Files) (account : Option Record) : Type 0 where
   pub from : List ℕ
   pub to : List ℕ
-  pub records : List Stamped
-  pub tail : ℕ
+  pub capture : Capture
+  pub plan : Plan
   pub told : Record
   pub words_are : pair_of words ≡ Some (from, to)
-  pub captured : WhereTold files (λ f. HoldsCapture (content f from) records tail)
-  pub few : length records ≤ 262144
-  pub accounts : Accounts records told
+  pub captured : WhereTold files (λ f. HoldsCapture (content f from) capture.records capture.tail)
+  pub few : length capture.records ≤ 262144
+  pub planned : IsPairPlan capture plan
+  pub accounts : Accounts planned.a told
   pub account_is : account ≡ Some told
 
 -- a run that came to the save: OUT is the capture of the sent frames with their stamps
 pub record Finished (end : Status) (account : Option Record) (words : List (List ℕ)) (w v : World) : Type 0 where
   pub replays : Replays words w.files account
   pub reads : v.reads ≡ w.reads
-  pub ends : Finishes end replays.to (capture_bytes (sent_frames 1500 replays.records)) (summary 1500 replays.records replays.tail) w v
+  pub ends : Finishes end replays.to (capture_bytes (sent_records replays.planned.a)) (summary replays.planned.a) w v
 
 -- the status of a capture that is not there, by why
 abbrev pub status_of : Stop → Status

@@ -9,6 +9,7 @@ mod gate;
 mod lines;
 mod load;
 mod plan;
+mod record;
 mod replay;
 mod status;
 mod summary;
@@ -16,6 +17,7 @@ mod top;
 mod words;
 
 pub use gate::{Gate, NoGate};
+pub use record::Record;
 pub use status::{Outcome, Status};
 pub use top::{run, run_serial};
 pub use words::wants_threads;

@@ -1,7 +1,8 @@
 //! The capture that a run reads: at most 67,108,864 bytes, and at most 262,144 records.
 //!
 //! Once the records are read, nobody reads the file's bytes any more: their memory is handed on as room.
-ghost use Rattle.std.specs.Prelude.{◌≡◌};
+ghost use Rattle.std.specs.Prelude.{◌≡◌, IfOk};
+ghost use Rattle.vmx_tool.specs.Plan.{Fits};
 ghost use Rattle.vmx_tool.specs.Ends.{Loaded, LoadedCounts};
 
 use std::alloc::Global;
@@ -37,7 +38,9 @@ const LIMIT: u64 = 67_108_864;
 const MOST: u32 = 262_144;
 
 /// Loads a file and reads the capture that it holds.
+#[tactic(auto, using(crate::proofs::Sizes::within_bytes))]
 pub fn load_capture<S: Shelf>(alloc: Global, from: &str, shelf: &mut S) -> Result<ReadCapture, Stop>
+    ensures fits { IfOk result (λ read. Fits read.capture) }
     ensures content { Loaded result from.now (S.files shelf.old) }
     ensures reads { LoadedCounts result (S.read_faults shelf.old) (S.read_faults shelf.new) }
     ensures files { S.files shelf.new ≡ S.files shelf.old }

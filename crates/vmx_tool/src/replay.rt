@@ -2,21 +2,27 @@
 //!
 //! A captured frame is moved all the way: from its record into the queue, to the frames that arrived, and into the
 //! record of what was handed up. The capture that is saved is written in between, from the arrived frames.
-ghost use Rattle.std.specs.Prelude.{◌≡◌, ◌++◌, ◌≤◌, ◌+◌, ◌<◌, ◌^◌, ◌∷◌, [], if◌then◌else◌, length, vec_len, filter, IfOk, OnOk};
+ghost use Rattle.std.specs.Prelude.{◌≡◌, ◌++◌, ◌+◌, ◌<◌, ◌^◌, ◌∷◌, [], if◌then◌else◌, length, filter, map, IfOk, OnOk};
 ghost use Rattle.std.specs.String.{string_bytes};
-ghost use Rattle.vmx_pcap.specs.Written.{capture_bytes};
-ghost use Rattle.vmx_model.specs.Verdict.{is_sent, sending_of, sent_frames};
-ghost use Rattle.vmx_model.specs.Fates.{fate_of, AreFates, handed_up};
-ghost use Rattle.vmx_tool.specs.Summary.{summary};
-ghost use Rattle.vmx_tool.specs.Ends.{Accounts};
+ghost use Rattle.vmx_tool.specs.Plan.{Fits, IsPlain};
+ghost use Rattle.vmx_tool.specs.Lengths.{is_sent, sending_of};
+ghost use Rattle.vmx_tool.specs.Fates.{fate_by, fates_due, handed_up, sent_records};
+ghost use Rattle.vmx_tool.specs.Ends.{IsReplay};
 
-use crate::plan::sender;
+use crate::plan::pair_plan;
+use crate::record::Record;
 use crate::summary::summary;
 use std::alloc::{AllocError, Global};
 use std::collections::VecDeque;
 use vmx_io::{Bytes, List};
-use vmx_model::{Fate, GuestPlan, Received, Record, Sending};
+use vmx_model::{Fate, GuestPlan, Plan, Received, Sending};
 use vmx_pcap::{Capture, Stamped};
+
+/// The length of an Ethernet header, in bytes: a shorter frame is not sent.
+const SHORTEST: usize = 14;
+
+/// The bytes that a sent frame may have above the MTU: an Ethernet header and a VLAN tag.
+const ABOVE_MTU: u64 = 18;
 
 /// The record of a replay, the capture that is saved, and the summary.
 #[derive(Drop)]
@@ -29,15 +35,15 @@ pub struct Replayed {
 /// Replays a capture by the plan of `pair`. The capture that is saved is written into the memory of `room`.
 #[tactic(auto, using(crate::proofs::Fates::all_short))]
 pub fn replay(alloc: Global, capture: Capture, room: Bytes) -> Result<Replayed, AllocError>
-    requires { length capture.records < 2 ^ 32 }
-    ensures record { IfOk result (λ x. Accounts capture.records x.record) }
-    ensures file { IfOk result (λ x. x.file ≡ capture_bytes (sent_frames 1500 capture.records)) }
-    ensures summary { IfOk result (λ x. string_bytes x.summary ≡ summary 1500 capture.records capture.tail) }
+    requires { Fits capture }
+    ensures { IfOk result (λ x. IsReplay capture x.record x.file (string_bytes x.summary)) }
 {
-    let GuestPlan { mtu, capture, .. } = sender(alloc, capture)?;
-    let Capture { records, tail } = capture;
-    let summary = summary(alloc, mtu, records.as_slice(), tail)?;
-    let (fates, queue) = send(alloc, mtu, records.into_vec())?;
+    let plan = pair_plan(alloc, capture)?;
+    // The sniffer has nothing to do before it is handed the frames.
+    let Plan { guests, .. } = plan;
+    let sender = guests.into_vec().remove(0);
+    let summary = summary(alloc, &sender)?;
+    let (fates, queue) = send(alloc, sender)?;
     let arrived = receive(alloc, queue)?;
     let file = vmx_pcap::write_over(room, arrived.as_slice())?;
     let received = hand_up(alloc, arrived)?;
@@ -51,17 +57,18 @@ pub fn replay(alloc: Global, capture: Capture, room: Bytes) -> Result<Replayed, 
     })
 }
 
-/// The fates of the captured frames, and the queue of those that are sent.
-#[tactic(auto, using(crate::proofs::Fates::sent_more))]
-fn send(
-    alloc: Global,
-    mtu: u32,
-    captured: Vec<Stamped>,
-) -> Result<(Vec<Fate>, VecDeque<Stamped>), AllocError>
-    requires { vec_len captured < 2 ^ 32 }
-    ensures fates { IfOk result (λ x. AreFates mtu captured.items x.0.items) }
-    ensures queue { IfOk result (λ x. x.1.items ≡ sent_frames mtu captured.items) }
+/// The fates of the captured frames, and the queue of those that are sent. A guest without a script and with one transmit queue sends
+/// by the lengths alone: one count of the sent frames serves for all verdicts, where `vmx_model::verdict` goes over all earlier frames.
+fn send(alloc: Global, sender: GuestPlan) -> Result<(Vec<Fate>, VecDeque<Stamped>), AllocError>
+    requires plain { IsPlain sender }
+    requires few { length sender.capture.records < 2 ^ 32 }
+    ensures fates { IfOk result (λ x. x.0.items ≡ fates_due sender) }
+    ensures queue { IfOk result (λ x. x.1.items ≡ sent_records sender) }
 {
+    let GuestPlan { setup, capture, .. } = sender;
+    let mtu = setup.mtu;
+    let Capture { records, .. } = capture;
+    let captured = records.into_vec();
     let mut fates = Vec::with_capacity(alloc, captured.len())?;
     let mut queue = VecDeque::with_capacity(alloc, captured.len())?;
     let mut place: u64 = 0;
@@ -82,12 +89,16 @@ fn send_one(
     stamped: Stamped,
 ) -> Result<u64, AllocError>
     requires { place + 1 < 2 ^ 64 }
-    ensures fate { OnOk result (fates.new.items ≡ fates.old.items ++ fate_of (sending_of mtu place (length stamped.frame)) ∷ []) }
+    ensures fate { OnOk result (fates.new.items ≡ fates.old.items ++ fate_by (sending_of mtu place (length stamped.frame)) ∷ []) }
     ensures queue { OnOk result (queue.new.items ≡ queue.old.items ++ filter (is_sent mtu) (stamped ∷ [])) }
     ensures place { IfOk result (λ n. n ≡ place + (if is_sent mtu stamped then 1 else 0)) }
 {
-    match vmx_model::verdict_of(mtu, place, stamped.frame.len()) {
-        Sending::Down | Sending::Short => {
+    match verdict_of(mtu, place, stamped.frame.len()) {
+        Sending::Down => {
+            fates.push(Fate::Down)?;
+            Ok(place)
+        }
+        Sending::Short => {
             fates.push(Fate::Short)?;
             Ok(place)
         }
@@ -111,6 +122,23 @@ fn send_one(
     }
 }
 
+/// The verdict on a frame of `len` bytes, at this MTU, where `earlier` frames were sent before it.
+fn verdict_of(mtu: u32, earlier: u64, len: usize) -> Sending
+    ensures { result ≡ sending_of mtu earlier len }
+{
+    if len < SHORTEST {
+        return Sending::Short;
+    }
+    if len as u64 > u64::from(mtu) + ABOVE_MTU {
+        return Sending::TooLong;
+    }
+    Sending::Sent {
+        activation: 0,
+        queue: 0,
+        place: earlier,
+    }
+}
+
 /// The frames that arrive at guest `b`, in the order of the queue.
 fn receive(alloc: Global, mut queue: VecDeque<Stamped>) -> Result<Vec<Stamped>, AllocError>
     ensures { IfOk result (λ arrived. arrived.items ≡ queue.items) }
@@ -124,7 +152,7 @@ fn receive(alloc: Global, mut queue: VecDeque<Stamped>) -> Result<Vec<Stamped>, 
 
 /// Hands the arrived frames up; each has as its place the number of those before it.
 fn hand_up(alloc: Global, arrived: Vec<Stamped>) -> Result<Vec<Received>, AllocError>
-    ensures { IfOk result (λ received. received.items ≡ handed_up 0 arrived.items) }
+    ensures { IfOk result (λ received. received.items ≡ handed_up 0 (map (λ r. r.frame) arrived.items)) }
 {
     let mut received = Vec::with_capacity(alloc, arrived.len())?;
     let mut place: u64 = 0;

@@ -1,10 +1,12 @@
 //! The summary: one line of what was captured, one of what became of it.
-ghost use Rattle.std.specs.Prelude.{◌≡◌, IfOk};
+ghost use Rattle.std.specs.Prelude.{◌≡◌, IfOk, count_by};
 ghost use Rattle.std.specs.String.{string_bytes};
-ghost use Rattle.vmx_model.specs.Counts.{sent_count, short_count, too_long_count};
-ghost use Rattle.vmx_tool.specs.Summary.{first_line, second_line, lines_of, summary};
+ghost use Rattle.vmx_tool.specs.Plan.{IsPlain};
+ghost use Rattle.vmx_tool.specs.Lengths.{is_sent, is_short, is_too_long};
+ghost use Rattle.vmx_tool.specs.Summary.{first_line, second_line, summary};
 
 use std::alloc::{AllocError, Global};
+use vmx_model::GuestPlan;
 use vmx_pcap::Stamped;
 
 /// The shortest frame that is sent, in bytes: an Ethernet header.
@@ -17,27 +19,23 @@ const HEADERS: usize = 18;
 const NO_COUNTS: &str =
     " link-full 0 inactive 0 filtered 0 no-buffer 0 discarded 0 no-port 0 down 0 short ";
 
-/// The two lines for a capture's records and tail, which guest `a` sends with this MTU.
-#[tactic(auto, unfolding(crate::specs::Summary::summary))]
-pub fn summary(
-    alloc: Global,
-    mtu: u32,
-    records: &[Stamped],
-    tail: u32,
-) -> Result<String, AllocError>
-    ensures { IfOk result (λ s. string_bytes s ≡ summary mtu records.now tail) }
+/// The two lines for the capture of a guest without a script and with one transmit queue.
+pub fn summary(alloc: Global, sender: &GuestPlan) -> Result<String, AllocError>
+    requires { IsPlain sender.now }
+    ensures { IfOk result (λ s. string_bytes s ≡ summary sender.now) }
 {
-    let (up, short, long) = counts(mtu, records);
-    let mut lines = first(alloc, records.len(), tail)?;
+    let records = sender.capture.records.as_slice();
+    let (up, short, long) = counts(sender.setup.mtu, records);
+    let mut lines = first(alloc, records.len(), sender.capture.tail)?;
     lines.push_str(second(alloc, up, short, long)?.as_str())?;
     Ok(lines)
 }
 
 /// How many frames are sent, too short and too long.
 fn counts(mtu: u32, records: &[Stamped]) -> (usize, usize, usize)
-    ensures up { result.0 ≡ sent_count mtu records.now }
-    ensures short { result.1 ≡ short_count records.now }
-    ensures long { result.2 ≡ too_long_count mtu records.now }
+    ensures up { result.0 ≡ count_by (is_sent mtu) records.now }
+    ensures short { result.1 ≡ count_by is_short records.now }
+    ensures long { result.2 ≡ count_by (is_too_long mtu) records.now }
 {
     let longest = mtu as usize + HEADERS;
     let up = records

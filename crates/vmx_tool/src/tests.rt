@@ -2,6 +2,8 @@
 ghost use Rattle.std.specs.Prelude.{None};
 
 use super::*;
+use crate::load::load_capture;
+use crate::plan::pair_plan;
 use std::alloc::{AllocError, Global};
 use std::process::Abort;
 use std::test::Fail;
@@ -9,7 +11,7 @@ use vmx_io::{
     Bytes, FaultyConsole, FaultyShelf, File, List, Load, Save, Shelf, SteadyConsole, SteadyShelf,
     Text,
 };
-use vmx_model::{Fate, Record};
+use vmx_model::{Fate, Plan, Sending, verdict};
 
 /// The header of a capture: little-endian, microseconds, version 2.4, snap length 65,535, Ethernet.
 const HEADER: [u8; 24] = [
@@ -27,6 +29,14 @@ const USAGE: &str =
 
 const fn up(place: u64) -> Fate {
     Fate::Up {
+        activation: 0,
+        queue: 0,
+        place,
+    }
+}
+
+const fn sent(place: u64) -> Sending {
+    Sending::Sent {
         activation: 0,
         queue: 0,
         place,
@@ -128,40 +138,69 @@ fn comes_out(
     Ok(())
 }
 
+/// Captured frames, the bytes that are cut off behind them, the console's text, the frames that come out, and the fates.
+type Replay<'a> = (&'a [Filled], usize, &'a str, &'a [Filled], &'a [Fate]);
+
 #[test]
 fn sent_frames_come_out_with_their_stamps(rt: HostRuntime) -> Result<(), Fail> {
-    comes_out(
-        &rt,
-        &THREE,
-        0,
-        "guests 2 captured 3 copies 3 tail 0\nup 3 link-full 0 inactive 0 filtered 0 no-buffer 0 discarded 0 no-port 0 down 0 short 0 too-long 0\n",
-        &THREE,
-        &[up(0), up(1), up(2)],
-    )?;
-    comes_out(
-        &rt,
-        &[],
-        0,
-        "guests 2 captured 0 copies 0 tail 0\nup 0 link-full 0 inactive 0 filtered 0 no-buffer 0 discarded 0 no-port 0 down 0 short 0 too-long 0\n",
-        &[],
-        &[],
-    )?;
-    comes_out(
-        &rt,
-        &[(5, 1, 13), (6, 2, 14), (7, 3, 1518), (8, 4, 1519)],
-        0,
-        "guests 2 captured 4 copies 4 tail 0\nup 2 link-full 0 inactive 0 filtered 0 no-buffer 0 discarded 0 no-port 0 down 0 short 1 too-long 1\n",
-        &[(6, 2, 14), (7, 3, 1518)],
-        &[Fate::Short, up(0), up(1), Fate::TooLong],
-    )?;
-    comes_out(
-        &rt,
-        &[(1, 1, 60), (2, 2, 60)],
-        30,
-        "guests 2 captured 1 copies 1 tail 46\nup 1 link-full 0 inactive 0 filtered 0 no-buffer 0 discarded 0 no-port 0 down 0 short 0 too-long 0\n",
-        &[(1, 1, 60)],
-        &[up(0)],
-    )?;
+    let thrice = [up(0), up(1), up(2)];
+    let between = [Fate::Short, up(0), up(1), Fate::TooLong];
+    let once = [up(0)];
+    let replays: [Replay<'_>; 4] = [
+        (
+            &THREE,
+            0,
+            "guests 2 captured 3 copies 3 tail 0\nup 3 link-full 0 inactive 0 filtered 0 no-buffer 0 discarded 0 no-port 0 down 0 short 0 too-long 0\n",
+            &THREE,
+            &thrice,
+        ),
+        (
+            &[],
+            0,
+            "guests 2 captured 0 copies 0 tail 0\nup 0 link-full 0 inactive 0 filtered 0 no-buffer 0 discarded 0 no-port 0 down 0 short 0 too-long 0\n",
+            &[],
+            &[],
+        ),
+        (
+            &[(5, 1, 13), (6, 2, 14), (7, 3, 1518), (8, 4, 1519)],
+            0,
+            "guests 2 captured 4 copies 4 tail 0\nup 2 link-full 0 inactive 0 filtered 0 no-buffer 0 discarded 0 no-port 0 down 0 short 1 too-long 1\n",
+            &[(6, 2, 14), (7, 3, 1518)],
+            &between,
+        ),
+        (
+            &[(1, 1, 60), (2, 2, 60)],
+            30,
+            "guests 2 captured 1 copies 1 tail 46\nup 1 link-full 0 inactive 0 filtered 0 no-buffer 0 discarded 0 no-port 0 down 0 short 0 too-long 0\n",
+            &[(1, 1, 60)],
+            &once,
+        ),
+    ];
+    for (captured, cut, text, kept, fates) in replays {
+        comes_out(&rt, captured, cut, text, kept, fates)?;
+    }
+    Ok(())
+}
+
+/// The verdict on a captured frame of guest `a`.
+fn verdict_there(rt: &impl Abort, plan: &Plan, frame: u32) -> Sending {
+    let guests = plan.guests.as_slice();
+    assert!(rt; !guests.is_empty());
+    assert!(rt; (frame as usize) < guests[0].capture.records.len());
+    verdict(plan, 0, frame)
+}
+
+#[test]
+fn the_plan_sends_frames_of_14_to_1518_bytes(rt: HostRuntime) -> Result<(), Fail> {
+    let alloc = rt.alloc();
+    let bytes = capture(alloc, &[(5, 1, 13), (6, 2, 14), (7, 3, 1518), (8, 4, 1519)])?;
+    let mut shelf = SteadyShelf::new(files_of(alloc, bytes)?);
+    let read = load_capture(alloc, "in", &mut shelf).expect(&rt, "a capture");
+    let plan = pair_plan(alloc, read.capture)?;
+    assert_eq!(rt; verdict_there(&rt, &plan, 0), Sending::Short);
+    assert_eq!(rt; verdict_there(&rt, &plan, 1), sent(0));
+    assert_eq!(rt; verdict_there(&rt, &plan, 2), sent(1));
+    assert_eq!(rt; verdict_there(&rt, &plan, 3), Sending::TooLong);
     Ok(())
 }
 
@@ -317,19 +356,33 @@ fn words_without_a_meaning_are_told_what_has_one(rt: HostRuntime) -> Result<(), 
     Ok(())
 }
 
+/// Words, the numbers of the shelf's calls and of the console's writes that fail, the status, and the console's text.
+type Fault = (
+    &'static str,
+    &'static [u64],
+    &'static [u64],
+    u8,
+    &'static str,
+);
+
 #[test]
 fn faults_have_their_status_and_line(rt: HostRuntime) -> Result<(), Fail> {
     let summary =
         "guests 2 captured 3 copies 3 tail 0\nup 3 link-full 0 inactive 0 filtered 0 no-buffer 0 discarded 0 no-port 0 down 0 short 0 too-long 0\n";
-    ends(&rt, "pair in out", &[], &[], 0, summary)?;
-    ends(&rt, "pair in out", &[2], &[1], 0, summary)?;
-    ends(&rt, "pair x out", &[], &[], 6, "read fault: x\n")?;
-    ends(&rt, "pair in out", &[0], &[], 6, "read fault: in\n")?;
-    ends(&rt, "pair in out", &[0], &[0], 6, "")?;
-    ends(&rt, "pair in out", &[1], &[], 7, "write fault: out\n")?;
-    ends(&rt, "pair in out", &[1], &[0], 7, "")?;
-    ends(&rt, "pair in out", &[], &[0], 7, "write fault: console\n")?;
-    ends(&rt, "pair in out", &[], &[0, 1], 7, "")?;
+    let faults: [Fault; 9] = [
+        ("pair in out", &[], &[], 0, summary),
+        ("pair in out", &[2], &[1], 0, summary),
+        ("pair x out", &[], &[], 6, "read fault: x\n"),
+        ("pair in out", &[0], &[], 6, "read fault: in\n"),
+        ("pair in out", &[0], &[0], 6, ""),
+        ("pair in out", &[1], &[], 7, "write fault: out\n"),
+        ("pair in out", &[1], &[0], 7, ""),
+        ("pair in out", &[], &[0], 7, "write fault: console\n"),
+        ("pair in out", &[], &[0, 1], 7, ""),
+    ];
+    for (line, failing, failing_writes, number, text) in faults {
+        ends(&rt, line, failing, failing_writes, number, text)?;
+    }
     Ok(())
 }
 

@@ -12,12 +12,12 @@ ghost use Rattle.vmx_tool.specs.Ends.{Ends, EndsAt, EndsAtOneOf, HoldsCapture, F
 use crate::gate::Gate;
 use crate::lines;
 use crate::load::{Stop, load_capture};
+use crate::record::Record;
 use crate::replay::{Replayed, replay};
 use crate::status::{Outcome, Status};
 use crate::words::pair_names;
 use std::alloc::{AllocError, Global};
 use vmx_io::{Console, Save, Shelf};
-use vmx_model::Record;
 use vmx_pcap::{CaptureFault, Stamped};
 
 /// Does what the words ask for. It returns, and calls no gate yet.

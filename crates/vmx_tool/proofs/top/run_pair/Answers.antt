@@ -17,13 +17,14 @@ returns-in-Ok-replay g c =
     (record {
       from = c.in-Some.from.now;
       to = c.in-Some.to.now;
-      records = c.in-Ok.read.capture.records;
-      tail = c.in-Ok.read.capture.tail;
+      capture = c.in-Ok.read.capture;
+      plan = r.plan;
       told = c.in-Ok-replay.replayed.«record»;
       words_are = sym c.in-Some.ensures;
       captured = l.content.1;
       few = l.content.0;
-      accounts = r.«record»;
+      planned = r.planned;
+      accounts = r.accounts;
       account_is = c.finish.ensures.account;
     })
-    (same_world _ _ l.files refl l.reads l.writes refl) c.finish.ensures.reads r.file r.summary c.finish.ensures.ends
+    (same_world _ _ l.files refl l.reads l.writes refl) c.finish.ensures.reads r.file_is r.lines_are c.finish.ensures.ends

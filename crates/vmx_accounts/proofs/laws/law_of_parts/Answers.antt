@@ -1,5 +1,0 @@
-use Rattle.vmx_accounts.proofs.Parts.{the_law}
-use Rattle.vmx_accounts.proofs.laws.law_of_parts.Goals as goal
-
-pub returns : goal.returns
-returns c = record { accounts = the_law }

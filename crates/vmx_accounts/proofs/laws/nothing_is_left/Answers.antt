@@ -1,5 +1,0 @@
-use Rattle.vmx_accounts.proofs.Left.{nothing_left}
-use Rattle.vmx_accounts.proofs.laws.nothing_is_left.Goals as goal
-
-pub returns : goal.returns
-returns c = record { left = nothing_left }

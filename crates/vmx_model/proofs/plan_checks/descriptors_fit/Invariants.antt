@@ -1,0 +1,10 @@
+use Rattle.std.proofs.Common.{◌≡◌, ◌≤◌, nat_le, drop}
+use Rattle.vmx_model.specs.Totals.{descriptors_of}
+use Rattle.vmx_model.proofs.plan_checks.descriptors_fit.Given as goal
+
+-- the guests that are left share what is left
+abbrev pub invariant-loop-guest : goal.invariant-loop-guest
+invariant-loop-guest l = record {
+  low : l.left ≤ 65536;
+  same : nat_le (descriptors_of (drop l.guest-index l.guests)) l.left ≡ nat_le (descriptors_of l.guests) 65536;
+}

@@ -1,0 +1,15 @@
+use Rattle.std.proofs.Common.{◌≡◌, ◌^◌, replicate, slice_index, refl, arith}
+use Rattle.vmx_shared_area.specs.Bounds.{below_bound}
+use Rattle.vmx_model.proofs.tests.setup.Goals as goal
+
+pub invariant_of-filter : goal.invariant_of-filter
+invariant_of-filter c = record { mode_fits = omega arith; vlans_length = refl; vlans_fit = below_bound (2 ^ 32) (replicate 128 4294967295) (omega arith) refl }
+
+pub invariant_of-result-clause-entries : goal.invariant_of-result-clause-entries
+invariant_of-result-clause-entries c = λ r is i inside.
+    let zeros = rw is at c.setting.ensures in
+    let zero : slice_index r.table i ≡ 0 = zeros i in
+    omega (arith, zero)
+
+pub invariant_of-result-clause-levels_fit : goal.invariant_of-result-clause-levels_fit
+invariant_of-result-clause-levels_fit c = below_bound 256 (replicate 25 0) (omega arith) refl

@@ -1,0 +1,171 @@
+-- From what a device hands back in its bags, and what its driver's facts say, to what a whole run leaves. The registers tell of a bag its ends' lists of numbers, and these determine what the ends did.
+use Rattle.std.specs.Prelude.{◌≡◌, ◌<◌, ◌≤◌, ℕ, suc, true, false, List, [], ◌∷◌, ◌++◌, length, map, filter, filter_map, find, Option, Some, None, ⊤}
+use Rattle.std.specs.List.{AllByRecursion}
+use Rattle.vmx_ends.specs.declared.frames.Sent.{Sent}
+use Rattle.vmx_ends.specs.declared.frames.Delivery.{Delivery}
+use Rattle.vmx_io.specs.declared.handed.HandedView.{HandedView}
+use Rattle.vmx_ends.specs.Frames.{sent_of}
+use Rattle.vmx_ends.specs.Transmit.{TxDeviceView, TxView}
+use Rattle.vmx_ends.specs.Receive.{RxDeviceView, RxView}
+use Rattle.vmx_ends.specs.ReceiveClauses.{IsRefusal}
+use Rattle.vmx_ends.specs.HandedEnds.{ends_handed}
+use Rattle.vmx_model.specs.Types.{Plan, GuestPlan, Entry, Received}
+use Rattle.vmx_model.specs.Lists.{count, EachAfter, Rises}
+use Rattle.vmx_model.specs.Wire.{wire_form}
+use Rattle.vmx_model.specs.Plan.{posted_of, asks, commands, closes, is_set, ends_by_reset}
+use Rattle.vmx_device_state.specs.declared.turn.Turn.{Turn}
+use Rattle.vmx_model.specs.Answers.{Trade, passes, takes, gives, trade, held_by}
+use Rattle.vmx_model.specs.Journal.{Beside, IsLawfulJournal, needs}
+use Rattle.vmx_model.specs.Views.{GuestView, RecordView}
+use Rattle.vmx_model.specs.Fates.{tx_named}
+use Rattle.vmx_model.specs.Stats.{tx_counts, rx_counts}
+use Rattle.vmx_model.specs.Account.{Send, send_of, sends_on, planned, deliveries, arrival_of, need, asked, ask_of, is_set_entry, IsTraffic, names, tx_made, rx_made, rx_named, from_queue, received_from, beside}
+
+-- queue by queue, the first with the number q
+abbrev pub EachQueue : {X : Type 0} → (ℕ → X → Type 0) → ℕ → List X → Type 0
+EachQueue P q [] = ⊤
+EachQueue P q (x ∷ xs) = P q x × EachQueue P (suc q) xs
+
+-- queue by queue, two lists of one length
+abbrev pub Pairwise : {X Y : Type 0} → (X → Y → Type 0) → List X → List Y → Type 0
+Pairwise R [] [] = ⊤
+Pairwise R (x ∷ xs) (y ∷ ys) = R x y × Pairwise R xs ys
+Pairwise R [] (y ∷ ys) = ⊥
+Pairwise R (x ∷ xs) [] = ⊥
+
+-- ------------------------------------------------------------ the bags in which ends come back
+
+-- the ends in an answer's bag, where a device gives up those that it held
+abbrev pub gift : Trade → Option (List (List ℕ)) → Option HandedView → List HandedView
+gift gives (Some keys) (Some ends) = ends ∷ []
+gift gives (Some keys) None = []
+gift gives None ends = []
+gift passes held ends = []
+gift takes held ends = []
+
+-- of several commands, where a device holds ends of these keys
+abbrev pub gifts_from : Option (List (List ℕ)) → List Turn → List HandedView
+gifts_from held [] = []
+gifts_from held (t ∷ ts) = gift (trade t) held t.answer.ends ++ gifts_from (held_by (trade t) t.command.ends held) ts
+
+-- of all commands: one bag an activation that ended
+abbrev pub gifts : List Turn → List HandedView
+gifts told = gifts_from None told
+
+-- ------------------------------------------------------------ what a device says of the ends that it hands back
+
+-- a transmit end: what it took went to its targets, as the journal says, and is completed
+pub record TookAsSaid (gs : List GuestPlan) (g : ℕ) (es : List Entry) (a q : ℕ) (v : TxDeviceView) : Type 0 where
+  pub sends : sends_on a q es ≡ planned gs g a q 0 (map wire_form (sent_of v.taken))
+  pub completed : v.completed ≡ length v.taken
+
+-- a receive end: what it delivered, and the positions that it lacked, are those of the journal
+pub record DeliveredAsSaid (b : Beside) (es : List Entry) (a q : ℕ) (v : RxDeviceView) : Type 0 where
+  pub delivered : map arrival_of v.delivered ≡ deliveries b a q [] es
+  pub refused : map need v.refused ≡ needs a q es
+
+-- the ends of one activation
+pub record HandsBack (gs : List GuestPlan) (b : Beside) (es : List Entry) (a : ℕ) (bag : HandedView) : Type 0 where
+  pub tx : List TxDeviceView
+  pub rx : List RxDeviceView
+  pub handed : bag ≡ ends_handed tx rx
+  pub took : EachQueue (TookAsSaid gs b.port es a) 0 tx
+  pub gave : EachQueue (DeliveredAsSaid b es a) 0 rx
+
+-- the bags of several activations, the first with the number a
+abbrev pub AllHandBack : List GuestPlan → Beside → List Entry → ℕ → List HandedView → Type 0
+AllHandBack gs b es a [] = ⊤
+AllHandBack gs b es a (bag ∷ bags) = HandsBack gs b es a bag × AllHandBack gs b es (suc a) bags
+
+-- ------------------------------------------------------------ what a driver says of the ends that it got back
+
+-- the facts of a transmit queue have the lists of the device's end
+pub record MetTx (f : TxView) (v : TxDeviceView) : Type 0 where
+  pub taken : f.taken ≡ v.taken
+  pub completed : f.completed ≡ v.completed
+
+-- the same of a receive queue
+pub record MetRx (f : RxView) (v : RxDeviceView) : Type 0 where
+  pub delivered : f.delivered ≡ v.delivered
+  pub refused : f.refused ≡ v.refused
+
+-- the ends of one activation met the driver's, queue by queue
+pub record GotBack (g a : ℕ) (bag : HandedView) (tx : List TxView) (rx : List RxView) : Type 0 where
+  pub tx_ends : List TxDeviceView
+  pub rx_ends : List RxDeviceView
+  pub handed : bag ≡ ends_handed tx_ends rx_ends
+  pub met_tx : Pairwise MetTx tx tx_ends
+  pub met_rx : Pairwise MetRx rx rx_ends
+  pub tx_names : EachQueue (λ q (f : TxView). f.made.name ≡ record { guest = g; activation = a; queue = q }) 0 tx
+  pub rx_names : EachQueue (λ q (f : RxView). f.made.name ≡ record { guest = g; activation = a; queue = q }) 0 rx
+
+-- the facts of one activation, and those of the later ones
+pub record Parted (g a : ℕ) (bag : HandedView) (tx : List TxView) (rx : List RxView) : Type 0 where
+  pub tx_now : List TxView
+  pub tx_later : List TxView
+  pub rx_now : List RxView
+  pub rx_later : List RxView
+  pub tx_are : tx ≡ tx_now ++ tx_later
+  pub rx_are : rx ≡ rx_now ++ rx_later
+  pub got : GotBack g a bag tx_now rx_now
+
+-- the bags of several activations, the first with the number a
+abbrev pub AllGotBack : ℕ → ℕ → List HandedView → List TxView → List RxView → Type 0
+AllGotBack g a [] tx rx = (tx ≡ []) × (rx ≡ [])
+AllGotBack g a (bag ∷ bags) tx rx = (x : Parted g a bag tx rx) × AllGotBack g (suc a) bags x.tx_later x.rx_later
+
+-- ------------------------------------------------------------ what follows of the facts
+
+-- the facts of a transmit queue say what the device's journal says
+pub record FactsSayTx (gs : List GuestPlan) (g : ℕ) (es : List Entry) (f : TxView) : Type 0 where
+  pub sends : sends_on f.made.name.activation f.made.name.queue es ≡ planned gs g f.made.name.activation f.made.name.queue 0 (map wire_form (sent_of f.taken))
+  pub completed : f.completed ≡ length f.taken
+
+-- the same of a receive queue
+pub record FactsSayRx (b : Beside) (es : List Entry) (f : RxView) : Type 0 where
+  pub delivered : map arrival_of f.delivered ≡ deliveries b f.made.name.activation f.made.name.queue [] es
+  pub refused : map need f.refused ≡ needs f.made.name.activation f.made.name.queue es
+
+-- ------------------------------------------------------------ what the actors of a guest leave
+
+-- what a driver and the meeting of the ends say of a transmit queue's facts
+pub record DriverSaysTx (p : GuestPlan) (f : TxView) : Type 0 where
+  pub made : f.made ≡ tx_made p f.made.name
+  pub sent : f.sent ≡ posted_of p f.made.name.activation f.made.name.queue
+  pub met : (rest : List Sent) × (sent_of f.taken ++ rest ≡ f.sent)
+  pub reaped : f.reaped ≡ f.completed
+  pub whole : ends_by_reset p f.made.name.activation ≡ false → length f.taken ≡ length f.sent
+
+-- the same of a receive queue
+pub record DriverSaysRx (p : GuestPlan) (received : List Received) (f : RxView) : Type 0 where
+  pub made : f.made ≡ rx_made p f.made.name
+  pub met : (rest : List Delivery) × (f.received ++ rest ≡ f.delivered)
+  pub drained : length f.received ≡ length f.delivered
+  pub looks : AllByRecursion (IsRefusal f.made) f.refused
+  pub handed : filter (from_queue f.made.name.activation f.made.name.queue) received ≡ received_from f.made.name.activation f.made.name.queue 0 f.received
+
+-- a device: its journal is lawful, its statistics are counts, and the ends that it handed back did what the journal says
+pub record DeviceLeaves (plan : Plan) (r : RecordView) (g : ℕ) (p : GuestPlan) (v : GuestView) : Type 0 where
+  pub lawful : IsLawfulJournal (beside r g p v) v.entries v.setups
+  pub hands_back : AllHandBack plan.guests (beside r g p v) v.entries 0 (gifts v.told)
+  pub tx_stats : v.tx_stats ≡ tx_counts v.tx v.entries
+  pub rx_stats : v.rx_stats ≡ rx_counts r.links g v.entries
+
+-- a driver: its facts are one per activation and queue, with the lists of the ends that it got back
+pub record DriverLeaves (g : ℕ) (p : GuestPlan) (v : GuestView) : Type 0 where
+  pub tx_names : map (λ (f : TxView). f.made.name) v.tx ≡ names g p p.setup.tx_queues
+  pub rx_names : map (λ (f : RxView). f.made.name) v.rx ≡ names g p p.setup.rx_queues
+  pub got_back : AllGotBack g 0 (gifts v.told) v.tx v.rx
+  pub tx : AllByRecursion (DriverSaysTx p) v.tx
+  pub rx : AllByRecursion (DriverSaysRx p v.received) v.rx
+  pub received : AllByRecursion (λ (x : Received). (f : RxView) × (find (rx_named x.activation x.queue) v.rx ≡ Some f)) v.received
+  pub rising : Rises (λ (x y : Received). x.activation ≤ y.activation) v.received
+  pub images : map ask_of (filter (λ (t : Turn). is_set t.command.number) v.told) ≡ asks p
+
+-- both: the commands are the plan's and are answered 0, traffic stands between the first and the closing one, and each frame came from a queue of the driver
+pub record Agree (p : GuestPlan) (v : GuestView) : Type 0 where
+  pub told : filter_map asked v.entries ≡ map (λ (t : Turn). (t.command.number, t.answer.value)) v.told
+  pub settings : filter (λ (x : ℕ × ℕ). is_set x.0) (filter_map asked v.entries) ≡ map (λ c. (c, 0)) (commands p)
+  pub opens : EachAfter (λ before e. IsTraffic e → 0 < count is_set_entry before) [] v.entries
+  pub ends : closes p ≡ true → EachAfter (λ before e. IsTraffic e → count is_set_entry before < length (commands p)) [] v.entries
+  pub owned : AllByRecursion (λ (s : Send). (f : TxView) × (find (tx_named s.tag.activation s.tag.queue) v.tx ≡ Some f)) (filter_map send_of v.entries)
