@@ -1,0 +1,11 @@
+pub mod Walks
+pub mod Sums
+pub mod Places
+pub mod Fits
+pub mod Made
+pub mod SmallLaws
+pub mod WayLaws
+pub mod Scripts
+pub mod Turns
+pub mod Begins
+pub mod FateLaws
