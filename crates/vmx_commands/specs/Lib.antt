@@ -1,0 +1,9 @@
+pub mod Views
+pub mod States
+pub mod Statistics
+pub mod Sums
+pub mod Answers
+pub mod Images
+pub mod Ends
+pub mod Readings
+pub mod Replies

@@ -1,0 +1,39 @@
+//! What a device writes into the image: statistics and status of its queues.
+
+ghost use Rattle.std.specs.Prelude.{◌≡◌, ◌≤◌, map, None};
+ghost use Rattle.vmx_commands.specs.Images.{with_stats, with_status};
+
+use vmx_shared_area::{Image, Side, Stats, write_stats, write_status};
+
+/// Writes the statistics of the first `count` queues of a side, at most 8. The receive descriptors stand behind `behind`
+/// transmit ones, 1 to 8.
+pub(crate) fn write_all_stats(
+    image: &mut Image,
+    behind: u32,
+    side: Side,
+    stats: &[Stats; 8],
+    count: u32,
+)
+    requires low { 1 ≤ behind }
+    requires high { behind ≤ 8 }
+    requires count { count ≤ 8 }
+    requires tx_count { side ≡ Side.Tx → count ≤ behind }
+    ensures written { image.new ≡ with_stats behind side (map (λ s. s.counts) stats.now) count image.old }
+{
+    for queue in 0..count {
+        write_stats(image, behind, side, queue, &stats[queue as usize]);
+    }
+}
+
+/// Writes of the first `count` queues of a side, at most 8, that they are not stopped.
+pub(crate) fn write_all_status(image: &mut Image, behind: u32, side: Side, count: u32)
+    requires low { 1 ≤ behind }
+    requires high { behind ≤ 8 }
+    requires count { count ≤ 8 }
+    requires tx_count { side ≡ Side.Tx → count ≤ behind }
+    ensures written { image.new ≡ with_status behind side (λ q. None) count image.old }
+{
+    for queue in 0..count {
+        write_status(image, behind, side, queue, None);
+    }
+}

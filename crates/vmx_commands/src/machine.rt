@@ -1,0 +1,302 @@
+//! The machine that answers commands.
+
+ghost use Rattle.std.specs.Prelude.{◌≡◌, ◌==◌, ◌&&◌, if◌then◌else◌, None, length};
+ghost use Rattle.vmx_device_state.specs.DeviceState.{check_of as number_of_check};
+ghost use Rattle.vmx_commands.specs.Views.{new_machine};
+
+use crate::gets::{GET_QUEUE_STATUS, GET_STATS, value_of};
+use crate::images::{write_all_stats, write_all_status};
+use crate::statistics::{Count, count_in, nothing_counted};
+use std::marker::Model;
+use vmx_device_state::{Order, Part, update_of};
+use vmx_ends::{Ends, Fabric};
+use vmx_regs::Bag;
+use vmx_shared_area::{Image, Setup, Side, Stats, read};
+
+/// The answer to a number that no command has.
+const UNKNOWN: u32 = 0xffff_ffff;
+
+/// The answer to an activation of an active device.
+const ALREADY_ACTIVE: u32 = 10;
+
+/// The answer where the bag has not the ends that the command wants.
+const OTHER_ENDS: u32 = 11;
+
+/// Whether a device is activated.
+#[derive(Clone, Copy, Debug, PartialEq, Eq)]
+pub enum State {
+    Idle,
+    Active,
+}
+
+/// What an active machine has. So ends are held exactly while there is a setup.
+#[derive(Drop)]
+struct Activated<F: Fabric> {
+    setup: Setup,
+    ends: Ends<F>,
+}
+
+/// A device's state, its queue ends and its statistics.
+#[derive(Drop)]
+pub struct Machine<F: Fabric> {
+    mac: [u8; 6],
+    active: Option<Activated<F>>,
+    tx: [Stats; 8],
+    rx: [Stats; 8],
+}
+
+impl<F: Fabric> Model for Machine<F> {
+    ghost use Rattle.std.specs.Prelude.{◌≡◌, length, map, option_map};
+    ghost use Rattle.vmx_device_state.specs.SetupView.{setup_view};
+    ghost use Rattle.vmx_commands.specs.Views.{MachineView, ends_view};
+
+    ghost Value = { MachineView };
+
+    ghost view = { λ m. record { mac = m.mac; active = option_map (λ a. record { setup = setup_view a.setup; ends = ends_view F.TxDevice.view F.RxDevice.view a.ends }) m.active; tx_stats = map (λ s. s.counts) m.tx; rx_stats = map (λ s. s.counts) m.rx } };
+
+    ghost invariant = { λ m. (length m.tx ≡ 8) × (length m.rx ≡ 8) };
+}
+
+impl<F: Fabric> Machine<F> {
+    ghost use Rattle.std.specs.Prelude.{◌<◌, map, is_some, option_map, slice_index_or, []};
+    ghost use Rattle.vmx_device_state.specs.ImageSetup.{image_setup};
+    ghost use Rattle.vmx_device_state.specs.DeviceState.{Idle, Active, activate_answer, stop_answer, update_answer, after_update, after_answer};
+    ghost use Rattle.vmx_regs.specs.Turns.{IsWhole, deal_of, Stops, Passes};
+    ghost use Rattle.vmx_commands.specs.Answers.{answer_to};
+    ghost use Rattle.vmx_commands.specs.Ends.{ends_held, ends_back};
+    ghost use Rattle.vmx_commands.specs.Images.{image_back, TellsStats};
+    ghost use Rattle.vmx_layout.specs.Command.{number_of};
+    ghost use Rattle.vmx_layout.specs.declared.command.Command.TheVariants.{GetStats};
+    ghost use Rattle.std.specs.Borrow.{LendsIf, sem};
+    ghost use Rattle.vmx_device_state.specs.SetupView.{setup_view};
+    ghost use Rattle.vmx_commands.specs.Views.{ends_view, ends_in, handed_of, counts_in, state_of, setup_of, ends_of, with_ends};
+    ghost use Rattle.vmx_commands.specs.States.{state_name};
+    ghost use Rattle.vmx_commands.specs.Statistics.{stats_on, after_count, IsCounted, AreSumsAfter};
+    ghost use Rattle.vmx_commands.specs.contracts.machine.Machine.{the_row as machine_row};
+    ghost use Rattle.vmx_ends.specs.contracts.fabric.Ends.{the_row as ends_row};
+
+    /// An idle machine that counted nothing, with its permanent address.
+    pub fn new(mac: [u8; 6]) -> Machine<F>
+        ensures new { result ≡ new_machine mac }
+    {
+        Machine {
+            mac,
+            active: None,
+            tx: [nothing_counted(); 8],
+            rx: [nothing_counted(); 8],
+        }
+    }
+
+    /// Answers a command, and gives its bag back. An activation that is answered 0 takes the ends out of the bag, and a quiesce or
+    /// reset of an active machine gives them back; GET_STATS and GET_QUEUE_STATUS write into the image of an active one. The ends
+    /// that the machine holds must be whole.
+    ///
+    /// A set command is answered 0, or by the first check that its image fails, 1 to 9; by 10, where an active machine is to be
+    /// activated; by 11, where the bag has not the ends that it must have; an unknown one by 0xFFFFFFFF.
+    pub fn apply(&mut self, command: u32, bag: Bag<Ends<F>>) -> (u32, Bag<Ends<F>>)
+        requires whole { IsWhole (option_map handed_of (ends_of self.old)) }
+        ensures answer { result.0 ≡ answer_to self.old.mac (state_of self.old) command bag.image (counts_in (ends_in F.TxDevice.view F.RxDevice.view bag)) }
+        ensures state { state_of self.new ≡ after_answer (state_of self.old) command bag.image result.0 }
+        ensures held { ends_of self.new ≡ ends_held (deal_of command result.0) (ends_of self.old) (ends_in F.TxDevice.view F.RxDevice.view bag) }
+        ensures kept { self.new ≡ record self.old { active = self.new.active } }
+        ensures image { result.1.image ≡ image_back self.old command bag.image }
+        ensures told { command ≡ number_of GetStats → TellsStats (state_of self.old) self.old result.1.image }
+        ensures ends { ends_in F.TxDevice.view F.RxDevice.view result.1 ≡ ends_back (deal_of command result.0) (ends_of self.old) (ends_in F.TxDevice.view F.RxDevice.view bag) }
+    {
+        match Order::of(command) {
+            Order::Activate => self.activate(bag),
+            Order::Stop => self.stop(bag),
+            Order::Update { part } => {
+                let value = self.update(part, &bag.image);
+                (value, bag)
+            }
+            Order::Unknown => (UNKNOWN, bag),
+            Order::Get => {
+                let Bag { mut image, ends } = bag;
+                self.write_back(command, &mut image);
+                (value_of(&self.mac, command), Bag { image, ends })
+            }
+        }
+    }
+
+    fn activate(&mut self, bag: Bag<Ends<F>>) -> (u32, Bag<Ends<F>>)
+        ensures answer { result.0 ≡ activate_answer (state_of self.old) bag.image (counts_in (ends_in F.TxDevice.view F.RxDevice.view bag)) }
+        ensures state { state_of self.new ≡ (if result.0 == 0 then Active (image_setup bag.image) else state_of self.old) }
+        ensures held { ends_of self.new ≡ (if result.0 == 0 then ends_in F.TxDevice.view F.RxDevice.view bag else ends_of self.old) }
+        ensures kept { self.new ≡ record self.old { active = self.new.active } }
+        ensures image { result.1.image ≡ bag.image }
+        ensures ends { ends_in F.TxDevice.view F.RxDevice.view result.1 ≡ (if result.0 == 0 then None else ends_in F.TxDevice.view F.RxDevice.view bag) }
+    {
+        if self.active.is_some() {
+            return (ALREADY_ACTIVE, bag);
+        }
+        let setup = match read(&bag.image) {
+            Ok(setup) => setup,
+            Err(fault) => return (fault.number(), bag),
+        };
+        let Bag { image, ends } = bag;
+        match ends {
+            None => (OTHER_ENDS, Bag { image, ends: None }),
+            Some(ends) => {
+                if !has_counts(&ends, &setup) {
+                    let ends = Some(ends);
+                    return (OTHER_ENDS, Bag { image, ends });
+                }
+                self.active = Some(Activated { setup, ends });
+                (0, Bag { image, ends: None })
+            }
+        }
+    }
+
+    fn stop(&mut self, bag: Bag<Ends<F>>) -> (u32, Bag<Ends<F>>)
+        ensures answer { result.0 ≡ stop_answer (state_of self.old) (counts_in (ends_in F.TxDevice.view F.RxDevice.view bag)) }
+        ensures state { state_of self.new ≡ (if result.0 == 0 then Idle else state_of self.old) }
+        ensures held { ends_of self.new ≡ (if result.0 == 0 then None else ends_of self.old) }
+        ensures kept { self.new ≡ record self.old { active = self.new.active } }
+        ensures image { result.1.image ≡ bag.image }
+        ensures ends { ends_in F.TxDevice.view F.RxDevice.view result.1 ≡ ends_back (if result.0 == 0 then Stops else Passes) (ends_of self.old) (ends_in F.TxDevice.view F.RxDevice.view bag) }
+    {
+        if self.active.is_some() && bag.ends.is_some() {
+            return (OTHER_ENDS, bag);
+        }
+        match self.active.take() {
+            None => (0, bag),
+            Some(active) => {
+                let Bag { image, ends: _ } = bag;
+                let Activated { setup: _, ends } = active;
+                let ends = Some(ends);
+                (0, Bag { image, ends })
+            }
+        }
+    }
+
+    fn update(&mut self, part: Part, image: &Image) -> u32
+        ensures answer { result ≡ update_answer part (state_of self.old) image.now }
+        ensures state { state_of self.new ≡ (if result == 0 then after_update part (state_of self.old) image.now else state_of self.old) }
+        ensures held { ends_of self.new ≡ ends_of self.old }
+        ensures kept { self.new ≡ record self.old { active = self.new.active } }
+    {
+        match self.active.as_mut() {
+            None => 0,
+            Some(active) => match update_of(part, &active.setup, image) {
+                None => check_of(part),
+                Some(setup) => {
+                    active.setup = setup;
+                    0
+                }
+            },
+        }
+    }
+
+    /// Writes what a GET writes into the image, where it writes something. What was written is there to be read.
+    fn write_back(&self, command: u32, image: &mut Image)
+        ensures image { image.new ≡ image_back self.now command image.old }
+        ensures told { command ≡ number_of GetStats → TellsStats (state_of self.now) self.now image.new }
+    {
+        // The type's facts: a setup has at most 8 queues a side, and an image 8,192 bytes.
+        let _active = &self.active;
+        let _bytes = image.bytes();
+        self.write_queues(command, image);
+    }
+
+    fn write_queues(&self, command: u32, image: &mut Image)
+        ensures image { image.new ≡ image_back self.now command image.old }
+    {
+        if let Some(active) = &self.active {
+            let tx = u32::from(active.setup.tx_queues);
+            let rx = u32::from(active.setup.rx_queues);
+            if command == GET_STATS {
+                write_all_stats(image, tx, Side::Tx, &self.tx, tx);
+                write_all_stats(image, tx, Side::Rx, &self.rx, rx);
+                return;
+            }
+            if command == GET_QUEUE_STATUS {
+                write_all_status(image, tx, Side::Tx, tx);
+                write_all_status(image, tx, Side::Rx, rx);
+            }
+        }
+    }
+
+    pub fn state(&self) -> State
+        ensures state { result ≡ state_name (state_of self.now) }
+    {
+        match &self.active {
+            None => State::Idle,
+            Some(_) => State::Active,
+        }
+    }
+
+    /// The setup in force, or None exactly while the machine is idle.
+    pub fn setup(&self) -> Option<&Setup>
+        ensures setup { option_map (λ s. setup_view s.now) result ≡ setup_of self.now }
+    {
+        match &self.active {
+            None => None,
+            Some(active) => Some(&active.setup),
+        }
+    }
+
+    /// The queue ends that are held, or None exactly while the machine is idle.
+    pub fn ends(&self) -> Option<&Ends<F>>
+        ensures ends { option_map (λ e. ends_view F.TxDevice.view F.RxDevice.view e.now) result ≡ ends_of self.now }
+    {
+        match &self.active {
+            None => None,
+            Some(active) => Some(&active.ends),
+        }
+    }
+
+    /// Lends the queue ends that are held, or None exactly while the machine is idle. Nothing else of the machine changes.
+    pub fn ends_mut(&mut self) -> Option<&mut Ends<F>>
+        ensures* writes_back { sem 𝓛 (LendsIf (machine_row F.row F.TxNote.row F.TxDriver.row F.TxDevice.row F.TxFacts.row F.RxNote.row F.RxDriver.row F.RxDevice.row F.RxFacts.row F.TxNote.TxNote F.TxDriver.TxDriver F.TxDevice.TxDevice F.TxFacts.TxFacts F.RxNote.RxNote F.RxDriver.RxDriver F.RxDevice.RxDevice F.RxFacts.RxFacts) (ends_row F.row F.TxNote.row F.TxDriver.row F.TxDevice.row F.TxFacts.row F.RxNote.row F.RxDriver.row F.RxDevice.row F.RxFacts.row) self.entry result (λ e. with_ends self.old (ends_view F.TxDevice.view F.RxDevice.view e)) self.old) }
+        ensures ends { option_map (λ e. ends_view F.TxDevice.view F.RxDevice.view e.now) result ≡ ends_of self.old }
+    {
+        let active = self.active.as_mut()?;
+        Some(&mut active.ends)
+    }
+
+    /// Counts one thing more on a queue, below 8. A transmit queue lacks no buffer, and a receive queue discards nothing.
+    pub fn count(&mut self, side: Side, queue: u32, what: Count)
+        requires queue { queue < 8 }
+        requires what { IsCounted side what }
+        ensures counted { self.new ≡ after_count side queue what self.old }
+        ensures sums { AreSumsAfter side queue what self.old self.new }
+    {
+        match side {
+            Side::Tx => count_in(&mut self.tx[queue as usize], side, what),
+            Side::Rx => count_in(&mut self.rx[queue as usize], side, what),
+        }
+    }
+
+    /// The statistics of a queue, below 8: of all activations together.
+    pub fn stats(&self, side: Side, queue: u32) -> Stats
+        requires queue { queue < 8 }
+        ensures stats { result.counts ≡ slice_index_or (stats_on side self.now) queue [] }
+    {
+        match side {
+            Side::Tx => self.tx[queue as usize],
+            Side::Rx => self.rx[queue as usize],
+        }
+    }
+}
+
+/// Whether there are as many ends of each side as the setup has queues.
+fn has_counts<F: Fabric>(ends: &Ends<F>, setup: &Setup) -> bool
+    ensures counts { result ≡ (length ends.now.tx == setup.now.tx_queues) && (length ends.now.rx == setup.now.rx_queues) }
+{
+    ends.tx.len() == setup.tx_queues as usize && ends.rx.len() == setup.rx_queues as usize
+}
+
+/// The number of the check that an update makes; the VLAN table and the levels have none.
+fn check_of(part: Part) -> u32
+    ensures number { result ≡ number_of_check part }
+{
+    match part {
+        Part::Mode => 7,
+        Part::Macs => 7,
+        Part::Vlans => 0,
+        Part::Table => 8,
+        Part::Levels => 0,
+        Part::Features => 8,
+    }
+}
