@@ -1,6 +1,6 @@
 -- What an answer does to queue ends, by the deal of its command's order and its value.
 use Rattle.std.specs.Prelude.{Option, Some, None}
-use Rattle.vmx_regs.specs.Turns.{Deal, Begins, Stops, Passes}
+use Rattle.vmx_device_state.specs.Deals.{Deal, Begins, Stops, Passes}
 
 module _ {E : Type 0} where
   -- the ends that the machine holds after an answer, by those that it held and those of the command's bag

@@ -2,7 +2,6 @@ pub mod Views
 pub mod States
 pub mod Statistics
 pub mod Sums
-pub mod Answers
 pub mod Images
 pub mod Ends
 pub mod Readings

@@ -5,14 +5,15 @@ use Rattle.vmx_io.specs.declared.handed.HandedView.{HandedView}
 use Rattle.vmx_device_state.specs.DeviceState.{DeviceState, set_answer, after_answer, after_turn, state_after, Idle}
 use Rattle.vmx_device_state.specs.Laws.{state_snoc}
 use Rattle.vmx_device_state.specs.declared.turn.Turn.{Turn}
-use Rattle.vmx_regs.specs.Turns.{command_of, answer_of, Deal, Begins, Stops, Passes, deal_of, keys_of, keys_after, held_after, held_after_turn, IsWhole, AreEndsBack, IsReply}
+use Rattle.vmx_device_state.specs.Deals.{Deal, Begins, Stops, Passes, deal_of, keys_of, keys_after, held_after, held_after_turn, IsWhole, AreEndsBack}
+use Rattle.vmx_regs.specs.Turns.{command_of, answer_of, IsReply}
 use Rattle.vmx_regs.specs.Ends.{replying, Owes}
 use Rattle.vmx_regs.specs.Rule.{turn_of}
 use Rattle.vmx_regs.specs.Lawful.{held_snoc}
 use Rattle.vmx_regs.specs.declared.bag.Bag.{Bag}
 use Rattle.vmx_regs.specs.declared.known.Calls.{Calls}
 use Rattle.vmx_commands.specs.Views.{EndsView, MachineView, handed_of, counts_in, state_of, ends_of}
-use Rattle.vmx_commands.specs.Answers.{answer_to}
+use Rattle.vmx_device_state.specs.Answers.{answer_to}
 use Rattle.vmx_commands.specs.Ends.{ends_held, ends_back}
 
 -- the keys of ends

@@ -3,7 +3,7 @@
 //! GET_CONF_INTR.
 
 ghost use Rattle.std.specs.Prelude.{◌≡◌, ◌+◌, ◌*◌, ◌<◌, ◌^◌, take, drop};
-ghost use Rattle.vmx_commands.specs.Answers.{low_first, get_answer};
+ghost use Rattle.vmx_device_state.specs.Answers.{low_first, get_answer};
 
 pub(crate) const GET_QUEUE_STATUS: u32 = 0xf00d_0000;
 

@@ -2,7 +2,7 @@
 //! between an activation and the next quiesce or reset, and counts frames by queue.
 //!
 //! Contracts see a machine as a record of plain data (`specs/Views.antt`). What it answers is a function of its state, the
-//! command and the bag (`specs/Answers.antt`); what becomes of the ends and of the image stands in `specs/Ends.antt` and
+//! command and the bag (vmx_device_state's `Answers`); what becomes of the ends and of the image stands in `specs/Ends.antt` and
 //! `specs/Images.antt`, and what is counted in `specs/Statistics.antt`. No call takes memory.
 #![tactic(auto)]
 

@@ -61,8 +61,8 @@ impl<F: Fabric> Machine<F> {
     ghost use Rattle.std.specs.Prelude.{◌<◌, map, is_some, option_map, slice_index_or, []};
     ghost use Rattle.vmx_device_state.specs.ImageSetup.{image_setup};
     ghost use Rattle.vmx_device_state.specs.DeviceState.{Idle, Active, activate_answer, stop_answer, update_answer, after_update, after_answer};
-    ghost use Rattle.vmx_regs.specs.Turns.{IsWhole, deal_of, Stops, Passes};
-    ghost use Rattle.vmx_commands.specs.Answers.{answer_to};
+    ghost use Rattle.vmx_device_state.specs.Deals.{IsWhole, deal_of, Stops, Passes};
+    ghost use Rattle.vmx_device_state.specs.Answers.{answer_to};
     ghost use Rattle.vmx_commands.specs.Ends.{ends_held, ends_back};
     ghost use Rattle.vmx_commands.specs.Images.{image_back, TellsStats};
     ghost use Rattle.vmx_layout.specs.Command.{number_of};

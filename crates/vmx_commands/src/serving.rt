@@ -2,7 +2,7 @@
 //! more in a turn calls the same three, one after another.
 
 ghost use Rattle.std.specs.Prelude.{◌≡◌, ◌+◌, ◌^◌, ◌<◌, length, true, false, None, option_map};
-ghost use Rattle.vmx_regs.specs.Turns.{IsWhole};
+ghost use Rattle.vmx_device_state.specs.Deals.{IsWhole};
 ghost use Rattle.vmx_regs.specs.Ends.{device_view, device_key};
 ghost use Rattle.vmx_commands.specs.Views.{handed_of, ends_of};
 ghost use Rattle.vmx_commands.specs.Replies.{Tracks};

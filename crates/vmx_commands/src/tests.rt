@@ -2,7 +2,7 @@
 
 ghost use Rattle.std.specs.Prelude.{◌≡◌, ◌<◌, ◌≤◌, true, option_map, IfOk};
 ghost use Rattle.vmx_ends.specs.HandedEnds.{is_whole_tx, is_whole_rx};
-ghost use Rattle.vmx_regs.specs.Turns.{IsWhole};
+ghost use Rattle.vmx_device_state.specs.Deals.{IsWhole};
 ghost use Rattle.vmx_commands.specs.Views.{ends_view, ends_in, handed_of, setup_of, ends_of};
 
 use crate::{Count, Machine, State, serve};

@@ -2,6 +2,8 @@ pub mod SetupView
 pub mod ImageSetup
 pub mod Orders
 pub mod DeviceState
+pub mod Answers
+pub mod Deals
 pub mod Agree
 pub mod Determined
 pub mod Taken

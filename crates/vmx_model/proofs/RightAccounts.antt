@@ -52,7 +52,7 @@ sender_leaves image holds = let e = says image holds in let f = tx_facts sender 
   opens = (ordered image).opens.0;
   ends = (ordered image).ends 0 sender (sender_view image) refl refl;
   lawful = record {
-    each = (((turn image 0xCAFE0000 (Some ends) None, refl, refl, refl, rw (holds.0, e) refl, refl), (refl, (plain, refl, sym e))), ((refl, tt), ((refl, tt), ((refl, tt), ((refl, tt), ((refl, tt), ((refl, tt), ((refl, tt), ((refl, tt), ((refl, tt), ((refl, tt), ((refl, tt), ((refl, tt), (((turn image 0xCAFE0001 None (Some ends), refl, refl, refl, refl, (ends, refl, refl)), refl), tt))))))))))))));
+    each = (((turn image 0xCAFE0000 (Some ends) None, refl, refl, refl, rw (holds.0, e) refl, refl), (refl, (plain, refl, sym e))), ((refl, tt), ((refl, tt), ((refl, tt), ((refl, tt), ((refl, tt), ((refl, tt), ((refl, tt), ((refl, tt), ((refl, tt), ((refl, tt), ((refl, tt), ((refl, tt), (((turn image 0xCAFE0001 None (Some ends), refl, refl, refl, refl, (refl, refl)), refl), tt))))))))))))));
     no_more = refl;
   };
 }
@@ -75,7 +75,7 @@ target_leaves image holds = let e = says image holds in let f = rx_facts target 
   opens = (ordered image).opens.1.0;
   ends = (ordered image).ends 1 target (target_view image) refl refl;
   lawful = record {
-    each = (((turn image 0xCAFE0000 (Some ends) None, refl, refl, refl, rw (holds.0, e) refl, refl), (refl, (plain, refl, sym e))), ((packet 0, refl, rw e (refl, refl, refl)), ((packet 1, refl, rw e (refl, refl, refl)), ((packet 2, refl, rw e (refl, refl, refl)), ((packet 3, refl, rw e (refl, refl, refl)), ((packet 4, refl, rw e (refl, refl, refl)), ((packet 5, refl, rw e (refl, refl, refl)), ((packet 6, refl, rw e (refl, refl, refl)), ((packet 7, refl, rw e (refl, refl, refl)), ((packet 8, refl, rw e (refl, refl, refl)), ((packet 9, refl, rw e (refl, refl, refl)), ((packet 10, refl, rw e (refl, refl, refl)), ((packet 11, refl, rw e (refl, refl, refl)), (((turn image 0xCAFE0001 None (Some ends), refl, refl, refl, refl, (ends, refl, refl)), refl), tt))))))))))))));
+    each = (((turn image 0xCAFE0000 (Some ends) None, refl, refl, refl, rw (holds.0, e) refl, refl), (refl, (plain, refl, sym e))), ((packet 0, refl, rw e (refl, refl, refl)), ((packet 1, refl, rw e (refl, refl, refl)), ((packet 2, refl, rw e (refl, refl, refl)), ((packet 3, refl, rw e (refl, refl, refl)), ((packet 4, refl, rw e (refl, refl, refl)), ((packet 5, refl, rw e (refl, refl, refl)), ((packet 6, refl, rw e (refl, refl, refl)), ((packet 7, refl, rw e (refl, refl, refl)), ((packet 8, refl, rw e (refl, refl, refl)), ((packet 9, refl, rw e (refl, refl, refl)), ((packet 10, refl, rw e (refl, refl, refl)), ((packet 11, refl, rw e (refl, refl, refl)), (((turn image 0xCAFE0001 None (Some ends), refl, refl, refl, refl, (refl, refl)), refl), tt))))))))))))));
     no_more = refl;
   };
 }

@@ -12,7 +12,8 @@ use Rattle.vmx_device_state.specs.declared.order.Part.TheVariants.{Mode, Macs, V
 use Rattle.vmx_device_state.specs.declared.turn.Turn.{Turn}
 use Rattle.vmx_device_state.specs.declared.turn.EndCounts.{EndCounts}
 use Rattle.vmx_model.specs.Plan.{is_set}
-use Rattle.vmx_model.specs.Answers.{get_answer, answer_to}
+use Rattle.vmx_device_state.specs.Answers.{get_answer}
+use Rattle.vmx_model.specs.Answers.{answer_to}
 
 -- an order that sets something, or is of no command
 abbrev pub is_set_order : Order → Bool

@@ -14,7 +14,7 @@ use Rattle.vmx_model.specs.Lists.{count, EachAfter, Rises}
 use Rattle.vmx_model.specs.Wire.{wire_form}
 use Rattle.vmx_model.specs.Plan.{posted_of, asks, commands, closes, is_set, ends_by_reset}
 use Rattle.vmx_device_state.specs.declared.turn.Turn.{Turn}
-use Rattle.vmx_model.specs.Answers.{Trade, passes, takes, gives, trade, held_by}
+use Rattle.vmx_device_state.specs.Deals.{Deal, Begins, Stops, Passes, deal_of, held_after_turn}
 use Rattle.vmx_model.specs.Journal.{Beside, IsLawfulJournal, needs}
 use Rattle.vmx_model.specs.Views.{GuestView, RecordView}
 use Rattle.vmx_model.specs.Fates.{tx_named}
@@ -36,17 +36,17 @@ Pairwise R (x ∷ xs) [] = ⊥
 -- ------------------------------------------------------------ the bags in which ends come back
 
 -- the ends in an answer's bag, where a device gives up those that it held
-abbrev pub gift : Trade → Option (List (List ℕ)) → Option HandedView → List HandedView
-gift gives (Some keys) (Some ends) = ends ∷ []
-gift gives (Some keys) None = []
-gift gives None ends = []
-gift passes held ends = []
-gift takes held ends = []
+abbrev pub gift : Deal → Option (List (List ℕ)) → Option HandedView → List HandedView
+gift Stops (Some keys) (Some ends) = ends ∷ []
+gift Stops (Some keys) None = []
+gift Stops None ends = []
+gift Passes held ends = []
+gift Begins held ends = []
 
 -- of several commands, where a device holds ends of these keys
 abbrev pub gifts_from : Option (List (List ℕ)) → List Turn → List HandedView
 gifts_from held [] = []
-gifts_from held (t ∷ ts) = gift (trade t) held t.answer.ends ++ gifts_from (held_by (trade t) t.command.ends held) ts
+gifts_from held (t ∷ ts) = gift (deal_of t.command.number t.answer.value) held t.answer.ends ++ gifts_from (held_after_turn held t) ts
 
 -- of all commands: one bag an activation that ended
 abbrev pub gifts : List Turn → List HandedView

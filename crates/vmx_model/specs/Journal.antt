@@ -13,7 +13,8 @@ use Rattle.vmx_model.specs.Wire.{rx_queue}
 use Rattle.vmx_model.specs.Plan.{activate_dev}
 use Rattle.vmx_device_state.specs.DeviceState.{DeviceState, state_from, Idle, Active}
 use Rattle.vmx_device_state.specs.declared.turn.Turn.{Turn}
-use Rattle.vmx_model.specs.Answers.{answer_to, held_from, ComesBack}
+use Rattle.vmx_device_state.specs.Deals.{held_after}
+use Rattle.vmx_model.specs.Answers.{answer_to, ComesBack}
 use Rattle.vmx_model.specs.Views.{Need}
 
 -- ------------------------------------------------------------ the entries before one
@@ -141,7 +142,7 @@ pub record Beside : Type 0 where
 -- the turn of an entry, as the registers tell it: its answer is the device's at this state, and its ends come back as they must
 abbrev pub IsTold : List ℕ → List Turn → List Entry → ℕ → ℕ → Type 0
 IsTold mac told before number answer = (t : Turn) × (slice_get told (count is_setting before) ≡ Some t) × (t.command.number ≡ number) × (t.answer.value ≡ answer)
-    × (answer ≡ answer_to mac (state_at told before) t) × ComesBack (held_from None (take (count is_setting before) told)) t
+    × (answer ≡ answer_to mac (state_at told before) t) × ComesBack (held_after (take (count is_setting before) told)) t
 
 -- the device is active
 abbrev pub IsActive : DeviceState → Type 0

@@ -1,5 +1,5 @@
 -- A journal stays lawful while it and the lists beside it grow.
-use Rattle.std.proofs.Common.{◌≡◌, ℕ, zero, suc, ◌≤◌, List, [], ◌∷◌, ◌++◌, length, length-append, take, ◌+◌, ◌∙◌, refl, ap, arith, append-nil, append_assoc, Option, Some, None}
+use Rattle.std.proofs.Common.{◌≡◌, ℕ, zero, suc, ◌≤◌, List, [], ◌∷◌, ◌++◌, length, length-append, take, ◌+◌, ◌∙◌, refl, ap, arith, append-nil, append_assoc, Option, Some}
 use Rattle.std.specs.List.{slice_get}
 use Rattle.vmx_model.specs.Types.{Entry, Setup, Packet}
 use Rattle.vmx_model.specs.declared.journal.Entry.TheVariants as entry
@@ -8,7 +8,8 @@ use Rattle.std.specs.Prelude.{Bool, filter}
 use Rattle.std.proofs.lemmas.List.Elements.{filter-append}
 use Rattle.vmx_device_state.specs.DeviceState.{DeviceState, state_from, Idle, Active}
 use Rattle.vmx_device_state.specs.declared.turn.Turn.{Turn}
-use Rattle.vmx_model.specs.Answers.{held_from, ComesBack}
+use Rattle.vmx_device_state.specs.Deals.{held_after}
+use Rattle.vmx_model.specs.Answers.{ComesBack}
 use Rattle.vmx_model.specs.Journal.{Beside, IsLawful, IsLawfulJournal, ShowsSetup, is_setting, has_setup, state_at, packet_at}
 
 count-append : {X : Type 0} (test : X → Bool) (xs ys : List X) → count test (xs ++ ys) ≡ count test xs + count test ys
@@ -65,7 +66,7 @@ entry_grows old new x setups more before (entry.Setting number answer setup) le 
     let same : take (suc (count is_setting before)) new.told ≡ take (suc (count is_setting before)) old.told = rw x.told (take_append (suc (count is_setting before)) old.told x.more enough) in
     let taken : take (count is_setting before) new.told ≡ take (count is_setting before) old.told = rw x.told (take_append (count is_setting before) old.told x.more (omega (arith, enough))) in
     let state : state_at new.told before ≡ state_at old.told before = ap (state_from Idle) taken in
-    let back : ComesBack (held_from None (take (count is_setting before) new.told)) h.0.0 = rw taken h.0.5 in
+    let back : ComesBack (held_after (take (count is_setting before) new.told)) h.0.0 = rw taken h.0.5 in
     ((h.0.0, rw x.told (get_append old.told x.more (count is_setting before) h.0.0 h.0.1), h.0.2, h.0.3, rw (state, x.mac) h.0.4, back), rw same (shows_more setups more (count has_setup before) setup (state_from Idle (take (suc (count is_setting before)) old.told)) h.1))
 entry_grows old new x setups more before (entry.Out tag target w) le h =
     let enough : count is_setting before ≤ length old.told = omega (arith, le, count-append is_setting before (entry.Out tag target w ∷ [])) in

@@ -1,5 +1,5 @@
 use Rattle.std.specs.Prelude.{option_map}
-use Rattle.vmx_regs.specs.Turns.{IsWhole}
+use Rattle.vmx_device_state.specs.Deals.{IsWhole}
 use Rattle.vmx_commands.specs.Views.{ends_view, handed_of, ends_of}
 use Rattle.vmx_commands.proofs.tests.asks_all.Given as goal
 
