@@ -1,5 +1,5 @@
 -- Laws of a list of which one item is replaced, by what contracts see of each item.
-use Rattle.std.specs.Prelude.{ℕ, ◌≡◌, ◌<◌, List, map, length, refl}
+use Rattle.std.specs.Prelude.{ℕ, ◌≡◌, ◌<◌, List, map, length}
 use Rattle.std.proofs.Common.{get_or, set, ap, ◌≢◌, sym, ◌∙◌, subst, All}
 use Rattle.std.proofs.lemmas.List.{map-set, get_or-map, length-map, length-set, get_or-set_same, get_or-set_other}
 use Rattle.std.proofs.lemmas.List.Elements.{All-set}

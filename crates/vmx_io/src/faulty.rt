@@ -66,8 +66,8 @@ impl Shelf for FaultyShelf {
     fn load(&mut self, alloc: Global, name: &str, limit: u64) -> Load
         ensures content { Loads result (Some self.old.files) name.now limit }
         ensures same { self.new.files ≡ self.old.files }
-        ensures read { LoadCounts result self.old.read_faults self.new.read_faults }
-        ensures write { self.new.write_faults ≡ self.old.write_faults }
+        ensures read_faults { LoadCounts result self.old.read_faults self.new.read_faults }
+        ensures write_faults { self.new.write_faults ≡ self.old.write_faults }
         ensures failing { (result ≡ Load.Failed) ↔ FailsToLoad self.old name.now }
         ensures after { AfterLoad result self.old self.new }
     {
@@ -90,8 +90,8 @@ impl Shelf for FaultyShelf {
 
     fn save(&mut self, alloc: Global, name: &str, bytes: &[u8]) -> Save
         ensures content { Saves result (Some self.old.files) (Some self.new.files) name.now bytes.now }
-        ensures write { SaveCounts result self.old.write_faults self.new.write_faults }
-        ensures read { self.new.read_faults ≡ self.old.read_faults }
+        ensures write_faults { SaveCounts result self.old.write_faults self.new.write_faults }
+        ensures read_faults { self.new.read_faults ≡ self.old.read_faults }
         ensures failing { (result ≡ Save.Failed) ↔ Contains self.old.failing self.old.next }
         ensures after { AfterSave result self.old self.new name.now bytes.now }
     {
@@ -153,7 +153,7 @@ impl Console for FaultyConsole {
 
     fn write(&mut self, bytes: &[u8]) -> Save
         ensures content { Writes result (Some self.old.text) (Some self.new.text) bytes.now }
-        ensures cause { SaveCounts result self.old.faults self.new.faults }
+        ensures faults { SaveCounts result self.old.faults self.new.faults }
         ensures failing { (result ≡ Save.Failed) ↔ Contains self.old.failing self.old.next }
         ensures after { AfterWrite result self.old self.new bytes.now }
     {

@@ -14,6 +14,8 @@ pub struct HandedView {
     pub tx: u64,
     /// How many of them are receive ends.
     pub rx: u64,
+    /// Whether any of them stands over given words.
+    pub given: bool,
     /// Whether no end is in the middle of a frame, and each has heard as many notes as it has given.
     pub whole: bool,
     /// Whether no end has taken, completed, delivered or refused a frame.

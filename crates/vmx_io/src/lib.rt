@@ -18,7 +18,7 @@ mod system;
 mod tests;
 mod text;
 
-pub use buffer::Buffer;
+pub use buffer::{Buffer, MAX_FRAME, MIN_FRAME};
 pub use bytes::Bytes;
 pub use faulty::{FaultyConsole, FaultyShelf};
 pub use file::File;

@@ -71,7 +71,7 @@ impl<T> List<T> {
 
     /// The item at an index.
     pub fn at(&self, index: usize) -> &T
-        requires { index < length self.now }
+        requires within { index < length self.now }
         ensures value { result.now ≡ slice_index_or self.now index result.now }
     {
         &self.items[index]
@@ -79,7 +79,7 @@ impl<T> List<T> {
 
     /// Lends the item at an index: the list then has there what was last written, and all other items as before.
     pub fn at_mut(&mut self, index: usize) -> &mut T
-        requires { index < length self.old }
+        requires within { index < length self.old }
         ensures* writes_back { sem 𝓛 (lends_item T.row self.entry index result) }
         ensures value { result.now ≡ slice_index_or self.old index result.now }
     {

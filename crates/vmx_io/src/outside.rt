@@ -49,15 +49,15 @@ pub trait Shelf {
     fn load(&mut self, alloc: Global, name: &str, limit: u64) -> Load
         ensures content { Loads result (files self.old) name.now limit }
         ensures same { files self.new ≡ files self.old }
-        ensures read { LoadCounts result (read_faults self.old) (read_faults self.new) }
-        ensures write { write_faults self.new ≡ write_faults self.old };
+        ensures read_faults { LoadCounts result (read_faults self.old) (read_faults self.new) }
+        ensures write_faults { write_faults self.new ≡ write_faults self.old };
 
     /// Puts the bytes under the name, in place of what stood there. After any other answer than `Done` nothing is
     /// said of this one name.
     fn save(&mut self, alloc: Global, name: &str, bytes: &[u8]) -> Save
         ensures content { Saves result (files self.old) (files self.new) name.now bytes.now }
-        ensures write { SaveCounts result (write_faults self.old) (write_faults self.new) }
-        ensures read { read_faults self.new ≡ read_faults self.old };
+        ensures write_faults { SaveCounts result (write_faults self.old) (write_faults self.new) }
+        ensures read_faults { read_faults self.new ≡ read_faults self.old };
 }
 
 /// A text that grows at its end.
@@ -71,5 +71,5 @@ pub trait Console {
     /// Appends the bytes. After `Failed` a front of them may have been appended.
     fn write(&mut self, bytes: &[u8]) -> Save
         ensures content { Writes result (text self.old) (text self.new) bytes.now }
-        ensures cause { SaveCounts result (faults self.old) (faults self.new) };
+        ensures faults { SaveCounts result (faults self.old) (faults self.new) };
 }

@@ -45,7 +45,7 @@ impl<T> Roomy<T> {
 
     /// Appends an item where there is room for it. It takes no memory.
     pub fn push(&mut self, item: T)
-        requires { 0 < self.old.1 }
+        requires room { 0 < self.old.1 }
         ensures items { self.new.0 ≡ self.old.0 ++ item ∷ [] }
         ensures room { self.new.1 ≡ self.old.1 - 1 }
     {
@@ -86,7 +86,7 @@ impl<T> Roomy<T> {
 
     /// The item at an index.
     pub fn at(&self, index: usize) -> &T
-        requires { index < length self.now.0 }
+        requires within { index < length self.now.0 }
         ensures value { result.now ≡ slice_index_or self.now.0 index result.now }
     {
         &self.items[index]

@@ -29,8 +29,8 @@ pub struct FolderShelf<'a, R> {
 impl<'a, R> FolderShelf<'a, R> {
     /// With no faults so far. It takes no memory.
     pub fn new(rt: &'a R) -> FolderShelf<'a, R>
-        ensures read { result.read_faults ≡ 0 }
-        ensures write { result.write_faults ≡ 0 }
+        ensures read_faults { result.read_faults ≡ 0 }
+        ensures write_faults { result.write_faults ≡ 0 }
     {
         FolderShelf {
             rt,
@@ -154,7 +154,7 @@ fn read_to_end<F: Read>(file: &mut F, room: Vec<u8>, limit: u64) -> Load
 
 /// Reads once into what stands from an index on.
 fn read_at<F: Read>(file: &mut F, bytes: &mut [u8], filled: usize) -> io::Result<usize>
-    requires { filled < length bytes.old }
+    requires within { filled < length bytes.old }
     ensures front { take filled bytes.new ≡ take filled bytes.old }
     ensures fits { IfOk result (λ count. filled + count ≤ length bytes.new) }
     ensures read { IfOk result (λ count. Consumes (F.remaining file.old) (F.remaining file.new) (take count (drop filled bytes.new))) }
@@ -226,7 +226,7 @@ mod tests {
 
     impl Stream {
         fn next(&mut self, wanted: usize) -> io::Result<usize>
-            ensures { IfOk result (λ count. count ≤ wanted) }
+            ensures fits { IfOk result (λ count. count ≤ wanted) }
         {
             let call = self.calls;
             self.calls = call.saturating_add(1);

@@ -91,6 +91,7 @@ fn room_is_made_where_there_is_memory(rt: HostRuntime) -> Result<(), Fail> {
     let mut roomy = Roomy::new(rt.alloc());
     roomy.reserve(1)?;
     roomy.push(3u32);
+    assert_eq!(rt; (MIN_FRAME, MAX_FRAME), (14, 9_022));
     let mut buffer = Buffer::new(rt.alloc())?;
     buffer.copy_of(&[2; 4]);
     let seen = (roomy.as_slice(), buffer.as_slice());
