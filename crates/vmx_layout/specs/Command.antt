@@ -1,29 +1,30 @@
 -- The numbers of the commands.
 use Rattle.std.specs.Prelude.{◌≢◌, ℕ}
 use Rattle.vmx_layout.specs.declared.command.Command.{Command}
+use Rattle.vmx_layout.specs.declared.command.TheConstants.{ACTIVATE_DEV, QUIESCE_DEV, RESET_DEV, UPDATE_RX_MODE, UPDATE_MAC_FILTERS, UPDATE_VLAN_FILTERS, UPDATE_RSSIDT, UPDATE_IML, UPDATE_PMCFG, UPDATE_FEATURE, GET_QUEUE_STATUS, GET_STATS, GET_LINK, GET_PERM_MAC_LO, GET_PERM_MAC_HI, GET_DID_LO, GET_DID_HI, GET_DEV_EXTRA_INFO, GET_CONF_INTR}
 use Rattle.vmx_layout.specs.declared.command.Command.TheVariants.{ActivateDev, QuiesceDev, ResetDev, UpdateRxMode, UpdateMacFilters, UpdateVlanFilters, UpdateRssidt, UpdateIml, UpdatePmcfg, UpdateFeature, GetQueueStatus, GetStats, GetLink, GetPermMacLo, GetPermMacHi, GetDidLo, GetDidHi, GetDevExtraInfo, GetConfIntr}
 
 -- the set commands, and then the get commands
 abbrev pub number_of : Command → ℕ
-number_of ActivateDev = 0xCAFE0000
-number_of QuiesceDev = 0xCAFE0001
-number_of ResetDev = 0xCAFE0002
-number_of UpdateRxMode = 0xCAFE0003
-number_of UpdateMacFilters = 0xCAFE0004
-number_of UpdateVlanFilters = 0xCAFE0005
-number_of UpdateRssidt = 0xCAFE0006
-number_of UpdateIml = 0xCAFE0007
-number_of UpdatePmcfg = 0xCAFE0008
-number_of UpdateFeature = 0xCAFE0009
-number_of GetQueueStatus = 0xF00D0000
-number_of GetStats = 0xF00D0001
-number_of GetLink = 0xF00D0002
-number_of GetPermMacLo = 0xF00D0003
-number_of GetPermMacHi = 0xF00D0004
-number_of GetDidLo = 0xF00D0005
-number_of GetDidHi = 0xF00D0006
-number_of GetDevExtraInfo = 0xF00D0007
-number_of GetConfIntr = 0xF00D0008
+number_of ActivateDev = ACTIVATE_DEV
+number_of QuiesceDev = QUIESCE_DEV
+number_of ResetDev = RESET_DEV
+number_of UpdateRxMode = UPDATE_RX_MODE
+number_of UpdateMacFilters = UPDATE_MAC_FILTERS
+number_of UpdateVlanFilters = UPDATE_VLAN_FILTERS
+number_of UpdateRssidt = UPDATE_RSSIDT
+number_of UpdateIml = UPDATE_IML
+number_of UpdatePmcfg = UPDATE_PMCFG
+number_of UpdateFeature = UPDATE_FEATURE
+number_of GetQueueStatus = GET_QUEUE_STATUS
+number_of GetStats = GET_STATS
+number_of GetLink = GET_LINK
+number_of GetPermMacLo = GET_PERM_MAC_LO
+number_of GetPermMacHi = GET_PERM_MAC_HI
+number_of GetDidLo = GET_DID_LO
+number_of GetDidHi = GET_DID_HI
+number_of GetDevExtraInfo = GET_DEV_EXTRA_INFO
+number_of GetConfIntr = GET_CONF_INTR
 
 -- no command has the number
 abbrev pub IsNoCommand : ℕ → Type 0

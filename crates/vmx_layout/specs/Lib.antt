@@ -1,3 +1,4 @@
+pub mod Addresses
 pub mod Bits
 pub mod BitsLaws
 pub mod BufferType

@@ -4,28 +4,48 @@ use Rattle.vmx_layout.specs.Bits.{bit, field, stack}
 use Rattle.vmx_layout.specs.BufferType.{btype_bit}
 use Rattle.vmx_layout.specs.Fault.{first_reserved}
 use Rattle.vmx_layout.specs.declared.fault.FieldFault.{FieldFault}
+use Rattle.vmx_layout.specs.declared.rx_desc.TheConstants.{LEN, BTYPE, DTYPE, UNNAMED, GENERATION, UNNAMED_PART3, LEN_WIDTH, UNNAMED_WIDTH, UNNAMED_PART3_WIDTH}
 use Rattle.vmx_layout.specs.declared.rx_desc.RxDesc.{RxDesc}
 
+-- the numbers in the second word; a truth value is the number 0 or 1, and so is a head or a body
+pub record Second : Type 0 where
+  pub len : ℕ
+  pub btype : ℕ
+  pub dtype : ℕ
+  pub generation : ℕ
+
 -- parts 2 and 3, from the lowest bit up; a field without a name is 0
-abbrev pub second_of : RxDesc → List (ℕ × ℕ)
-second_of d =
-    (14, d.len) ∷ (1, btype_bit d.btype) ∷ (1, bit d.dtype) ∷ (15, 0) ∷ (1, bit d.generation) ∷ (32, 0)
+abbrev pub second_fields : Second → List (ℕ × ℕ)
+second_fields s =
+    (LEN_WIDTH, s.len) ∷ (1, s.btype) ∷ (1, s.dtype) ∷ (UNNAMED_WIDTH, 0) ∷ (1, s.generation) ∷ (UNNAMED_PART3_WIDTH, 0)
     ∷ []
 
+-- the second word of these numbers
+abbrev pub second_word : Second → ℕ
+second_word s = stack (second_fields s)
+
+-- the numbers of a descriptor
+abbrev pub second_of : RxDesc → Second
+second_of d = record { len = d.len; btype = btype_bit d.btype; dtype = bit d.dtype; generation = bit d.generation }
+
 abbrev pub words_of : RxDesc → List ℕ
-words_of d = d.addr ∷ stack (second_of d) ∷ []
+words_of d = d.addr ∷ second_word (second_of d) ∷ []
 
 -- the bits without a name, from the lowest part up
 abbrev pub fault : List ℕ → Option FieldFault
 fault words =
     first_reserved
-    ((2, field (slice_index words 1) 16 15) ∷ (3, field (slice_index words 1) 32 32) ∷ [])
+    ((2, field (slice_index words 1) UNNAMED UNNAMED_WIDTH) ∷ (3, field (slice_index words 1) UNNAMED_PART3 UNNAMED_PART3_WIDTH) ∷ [])
     None
 
--- where each field stands in the words: its lowest bit and its width; parts 1 and 3 are from bit 32 on
+-- where each number stands in the second word: its lowest bit and its width
+pub record Tells (word : ℕ) (s : Second) : Type 0 where
+  pub len : s.len ≡ field word LEN LEN_WIDTH
+  pub btype : s.btype ≡ field word BTYPE 1
+  pub dtype : s.dtype ≡ field word DTYPE 1
+  pub generation : s.generation ≡ field word GENERATION 1
+
+-- where each field stands in the words
 pub record HasFields (words : List ℕ) (d : RxDesc) : Type 0 where
   pub addr : d.addr ≡ slice_index words 0
-  pub len : d.len ≡ field (slice_index words 1) 0 14
-  pub btype : btype_bit d.btype ≡ field (slice_index words 1) 14 1
-  pub dtype : bit d.dtype ≡ field (slice_index words 1) 15 1
-  pub generation : bit d.generation ≡ field (slice_index words 1) 31 1
+  pub second : Tells (slice_index words 1) (second_of d)

@@ -16,8 +16,8 @@ pub(crate) fn field(word: u64, low: u32, width: u32) -> u64
 
 /// Whether the bit `low` of the word is set.
 pub(crate) fn flag(word: u64, low: u32) -> bool
-    requires { low < 64 }
-    ensures { bit result ≡ field_of word low 1 }
+    requires begins { low < 64 }
+    ensures value { bit result ≡ field_of word low 1 }
 {
     word >> low & 1 == 1
 }

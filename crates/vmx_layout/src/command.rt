@@ -29,60 +29,99 @@ pub enum Command {
     GetConfIntr,
 }
 
+/// Linux's VMXNET3_CMD_ACTIVATE_DEV.
+pub const ACTIVATE_DEV: u32 = 0xcafe_0000;
+/// Linux's VMXNET3_CMD_QUIESCE_DEV.
+pub const QUIESCE_DEV: u32 = 0xcafe_0001;
+/// Linux's VMXNET3_CMD_RESET_DEV.
+pub const RESET_DEV: u32 = 0xcafe_0002;
+/// Linux's VMXNET3_CMD_UPDATE_RX_MODE.
+pub const UPDATE_RX_MODE: u32 = 0xcafe_0003;
+/// Linux's VMXNET3_CMD_UPDATE_MAC_FILTERS.
+pub const UPDATE_MAC_FILTERS: u32 = 0xcafe_0004;
+/// Linux's VMXNET3_CMD_UPDATE_VLAN_FILTERS.
+pub const UPDATE_VLAN_FILTERS: u32 = 0xcafe_0005;
+/// Linux's VMXNET3_CMD_UPDATE_RSSIDT.
+pub const UPDATE_RSSIDT: u32 = 0xcafe_0006;
+/// Linux's VMXNET3_CMD_UPDATE_IML.
+pub const UPDATE_IML: u32 = 0xcafe_0007;
+/// Linux's VMXNET3_CMD_UPDATE_PMCFG.
+pub const UPDATE_PMCFG: u32 = 0xcafe_0008;
+/// Linux's VMXNET3_CMD_UPDATE_FEATURE.
+pub const UPDATE_FEATURE: u32 = 0xcafe_0009;
+/// Linux's VMXNET3_CMD_GET_QUEUE_STATUS.
+pub const GET_QUEUE_STATUS: u32 = 0xf00d_0000;
+/// Linux's VMXNET3_CMD_GET_STATS.
+pub const GET_STATS: u32 = 0xf00d_0001;
+/// Linux's VMXNET3_CMD_GET_LINK.
+pub const GET_LINK: u32 = 0xf00d_0002;
+/// Linux's VMXNET3_CMD_GET_PERM_MAC_LO.
+pub const GET_PERM_MAC_LO: u32 = 0xf00d_0003;
+/// Linux's VMXNET3_CMD_GET_PERM_MAC_HI.
+pub const GET_PERM_MAC_HI: u32 = 0xf00d_0004;
+/// Own to this project.
+pub const GET_DID_LO: u32 = 0xf00d_0005;
+/// Own to this project.
+pub const GET_DID_HI: u32 = 0xf00d_0006;
+/// Own to this project.
+pub const GET_DEV_EXTRA_INFO: u32 = 0xf00d_0007;
+/// Linux's VMXNET3_CMD_GET_CONF_INTR.
+pub const GET_CONF_INTR: u32 = 0xf00d_0008;
+
 impl Command {
     /// The command of a number, or None exactly where no command has it.
     pub fn of(number: u32) -> Option<Command>
         ensures found { IfSome result (λ c. number_of c ≡ number) }
         ensures none { IfNone result (IsNoCommand number) }
-        ensures only { (c : Command) → number_of c ≡ number → result ≡ Some c }
+        ensures unique { (c : Command) → number_of c ≡ number → result ≡ Some c }
     {
         match number {
-            0xcafe_0000 => Some(Command::ActivateDev),
-            0xcafe_0001 => Some(Command::QuiesceDev),
-            0xcafe_0002 => Some(Command::ResetDev),
-            0xcafe_0003 => Some(Command::UpdateRxMode),
-            0xcafe_0004 => Some(Command::UpdateMacFilters),
-            0xcafe_0005 => Some(Command::UpdateVlanFilters),
-            0xcafe_0006 => Some(Command::UpdateRssidt),
-            0xcafe_0007 => Some(Command::UpdateIml),
-            0xcafe_0008 => Some(Command::UpdatePmcfg),
-            0xcafe_0009 => Some(Command::UpdateFeature),
-            0xf00d_0000 => Some(Command::GetQueueStatus),
-            0xf00d_0001 => Some(Command::GetStats),
-            0xf00d_0002 => Some(Command::GetLink),
-            0xf00d_0003 => Some(Command::GetPermMacLo),
-            0xf00d_0004 => Some(Command::GetPermMacHi),
-            0xf00d_0005 => Some(Command::GetDidLo),
-            0xf00d_0006 => Some(Command::GetDidHi),
-            0xf00d_0007 => Some(Command::GetDevExtraInfo),
-            0xf00d_0008 => Some(Command::GetConfIntr),
+            ACTIVATE_DEV => Some(Command::ActivateDev),
+            QUIESCE_DEV => Some(Command::QuiesceDev),
+            RESET_DEV => Some(Command::ResetDev),
+            UPDATE_RX_MODE => Some(Command::UpdateRxMode),
+            UPDATE_MAC_FILTERS => Some(Command::UpdateMacFilters),
+            UPDATE_VLAN_FILTERS => Some(Command::UpdateVlanFilters),
+            UPDATE_RSSIDT => Some(Command::UpdateRssidt),
+            UPDATE_IML => Some(Command::UpdateIml),
+            UPDATE_PMCFG => Some(Command::UpdatePmcfg),
+            UPDATE_FEATURE => Some(Command::UpdateFeature),
+            GET_QUEUE_STATUS => Some(Command::GetQueueStatus),
+            GET_STATS => Some(Command::GetStats),
+            GET_LINK => Some(Command::GetLink),
+            GET_PERM_MAC_LO => Some(Command::GetPermMacLo),
+            GET_PERM_MAC_HI => Some(Command::GetPermMacHi),
+            GET_DID_LO => Some(Command::GetDidLo),
+            GET_DID_HI => Some(Command::GetDidHi),
+            GET_DEV_EXTRA_INFO => Some(Command::GetDevExtraInfo),
+            GET_CONF_INTR => Some(Command::GetConfIntr),
             _ => None,
         }
     }
 
     pub fn number(&self) -> u32
-        ensures { result ≡ number_of self.now }
+        ensures value { result ≡ number_of self.now }
     {
         match self {
-            Command::ActivateDev => 0xcafe_0000,
-            Command::QuiesceDev => 0xcafe_0001,
-            Command::ResetDev => 0xcafe_0002,
-            Command::UpdateRxMode => 0xcafe_0003,
-            Command::UpdateMacFilters => 0xcafe_0004,
-            Command::UpdateVlanFilters => 0xcafe_0005,
-            Command::UpdateRssidt => 0xcafe_0006,
-            Command::UpdateIml => 0xcafe_0007,
-            Command::UpdatePmcfg => 0xcafe_0008,
-            Command::UpdateFeature => 0xcafe_0009,
-            Command::GetQueueStatus => 0xf00d_0000,
-            Command::GetStats => 0xf00d_0001,
-            Command::GetLink => 0xf00d_0002,
-            Command::GetPermMacLo => 0xf00d_0003,
-            Command::GetPermMacHi => 0xf00d_0004,
-            Command::GetDidLo => 0xf00d_0005,
-            Command::GetDidHi => 0xf00d_0006,
-            Command::GetDevExtraInfo => 0xf00d_0007,
-            Command::GetConfIntr => 0xf00d_0008,
+            Command::ActivateDev => ACTIVATE_DEV,
+            Command::QuiesceDev => QUIESCE_DEV,
+            Command::ResetDev => RESET_DEV,
+            Command::UpdateRxMode => UPDATE_RX_MODE,
+            Command::UpdateMacFilters => UPDATE_MAC_FILTERS,
+            Command::UpdateVlanFilters => UPDATE_VLAN_FILTERS,
+            Command::UpdateRssidt => UPDATE_RSSIDT,
+            Command::UpdateIml => UPDATE_IML,
+            Command::UpdatePmcfg => UPDATE_PMCFG,
+            Command::UpdateFeature => UPDATE_FEATURE,
+            Command::GetQueueStatus => GET_QUEUE_STATUS,
+            Command::GetStats => GET_STATS,
+            Command::GetLink => GET_LINK,
+            Command::GetPermMacLo => GET_PERM_MAC_LO,
+            Command::GetPermMacHi => GET_PERM_MAC_HI,
+            Command::GetDidLo => GET_DID_LO,
+            Command::GetDidHi => GET_DID_HI,
+            Command::GetDevExtraInfo => GET_DEV_EXTRA_INFO,
+            Command::GetConfIntr => GET_CONF_INTR,
         }
     }
 }

@@ -2,6 +2,7 @@
 //! The driver owns it until its generation is the ring's.
 
 ghost use Rattle.std.specs.Prelude.{◌<◌, ◌^◌, ◌≡◌};
+ghost use Rattle.vmx_layout.specs.declared.rx_desc.TheConstants.{LEN_WIDTH};
 
 use crate::bits::{field, flag};
 use crate::fault::FieldFault;
@@ -14,6 +15,27 @@ pub enum BufferType {
     /// Any piece of a frame but the first.
     Body,
 }
+
+// The lowest bit of each field in the second word, of which part 3 begins at bit 32.
+// The fields are Linux's (`struct Vmxnet3_RxDesc`).
+pub const LEN: u32 = 0;
+
+pub const BTYPE: u32 = 14;
+
+pub const DTYPE: u32 = 15;
+
+pub const UNNAMED: u32 = 16;
+
+pub const GENERATION: u32 = 31;
+
+pub const UNNAMED_PART3: u32 = 32;
+
+// The width in bits of each field that is wider than a bit.
+pub const LEN_WIDTH: u32 = 14;
+
+pub const UNNAMED_WIDTH: u32 = 15;
+
+pub const UNNAMED_PART3_WIDTH: u32 = 32;
 
 /// A receive descriptor.
 ///
@@ -34,23 +56,24 @@ pub struct RxDesc {
     pub dtype: bool,
     pub generation: bool,
     ghost addr_fits: { addr < 2 ^ 64 },
-    ghost len_fits: { len < 2 ^ 14 },
+    ghost len_fits: { len < 2 ^ LEN_WIDTH },
 }
 
 impl RxDesc {
     ghost use Rattle.std.specs.Prelude.{IfOk, IfErr, Some, None};
+    ghost use Rattle.vmx_layout.specs.Bits.{bit, field as field_of};
     ghost use Rattle.vmx_layout.specs.declared.rx_desc.RxDesc.{RxDesc};
     ghost use Rattle.vmx_layout.specs.RxDesc.{words_of, HasFields, fault};
 
     /// The two words: parts 0 and 1, then parts 2 and 3, the lower part in the lower half.
     pub fn to_words(&self) -> [u64; 2]
-        ensures { result ≡ words_of self.now }
+        ensures value { result ≡ words_of self.now }
     {
-        let part2 = u64::from(self.len)
-            + (self.btype.bit() << 14)
-            + (u64::from(self.dtype) << 15)
-            + (u64::from(self.generation) << 31);
-        [self.addr, part2]
+        let second = (u64::from(self.len) << LEN)
+            + (self.btype.bit() << BTYPE)
+            + (u64::from(self.dtype) << DTYPE)
+            + (u64::from(self.generation) << GENERATION);
+        [self.addr, second]
     }
 
     /// The descriptor that two words are.
@@ -61,31 +84,45 @@ impl RxDesc {
     /// or any bit of part 3.
     pub fn of_words(words: [u64; 2]) -> Result<RxDesc, FieldFault>
         ensures found { IfOk result (λ d. words ≡ words_of d) }
-        ensures only { (d : RxDesc) → words ≡ words_of d → result ≡ Ok d }
+        ensures unique { (d : RxDesc) → words ≡ words_of d → result ≡ Ok d }
         ensures fields { IfOk result (λ d. HasFields words d) }
         ensures sound { IfOk result (λ _. fault words ≡ None) }
         ensures faults { IfErr result (λ e. fault words ≡ Some e) }
     {
-        if field(words[1], 16, 15) != 0 {
+        if field(words[1], UNNAMED, UNNAMED_WIDTH) != 0 {
             return Err(FieldFault::Reserved { part: 2 });
         }
-        if field(words[1], 32, 32) != 0 {
+        if field(words[1], UNNAMED_PART3, UNNAMED_PART3_WIDTH) != 0 {
             return Err(FieldFault::Reserved { part: 3 });
         }
         Ok(Self::fields(words))
     }
 
+    /// The length in a second word alone, in bytes, where 0 stands for 16,384.
+    pub fn len_of_second(word: u64) -> u16
+        ensures field { result ≡ field_of word LEN LEN_WIDTH }
+    {
+        field(word, LEN, LEN_WIDTH) as u16
+    }
+
+    /// Whether a second word alone is that of a body.
+    pub fn is_body(word: u64) -> bool
+        ensures field { bit result ≡ field_of word BTYPE 1 }
+    {
+        flag(word, BTYPE)
+    }
+
     /// The fields where they stand, whatever the bits without a name are.
     fn fields(words: [u64; 2]) -> RxDesc
-        ensures { HasFields words result }
+        ensures fields { HasFields words result }
     {
         let [first, second] = words;
         RxDesc {
             addr: first,
-            len: field(second, 0, 14) as u16,
-            btype: BufferType::of_bit(flag(second, 14)),
-            dtype: flag(second, 15),
-            generation: flag(second, 31),
+            len: field(second, LEN, LEN_WIDTH) as u16,
+            btype: BufferType::of_bit(flag(second, BTYPE)),
+            dtype: flag(second, DTYPE),
+            generation: flag(second, GENERATION),
         }
     }
 }
@@ -95,7 +132,7 @@ impl BufferType {
     ghost use Rattle.vmx_layout.specs.BufferType.{btype_bit};
 
     fn bit(self) -> u64
-        ensures { result ≡ btype_bit self }
+        ensures value { result ≡ btype_bit self }
     {
         match self {
             BufferType::Head => 0,
@@ -104,7 +141,7 @@ impl BufferType {
     }
 
     fn of_bit(body: bool) -> BufferType
-        ensures { btype_bit result ≡ bit body }
+        ensures value { btype_bit result ≡ bit body }
     {
         if body {
             BufferType::Body

@@ -57,6 +57,8 @@ fn transmit_descriptors_have_their_words(rt: HostRuntime) {
     ] {
         assert_eq!(rt; desc.to_words(), words, "of {desc:?}");
         assert_eq!(rt; TxDesc::of_words(words), Ok(desc), "at {words:?}");
+        assert_eq!(rt; TxDesc::len_of_second(words[1]), desc.len);
+        assert_eq!(rt; TxDesc::ends_packet(words[1]), desc.eop);
     }
     assert_eq!(rt;
         plain.to_words()[1].to_le_bytes(),
@@ -115,6 +117,8 @@ fn receive_descriptors_have_their_words(rt: HostRuntime) {
     ] {
         assert_eq!(rt; desc.to_words(), words, "of {desc:?}");
         assert_eq!(rt; RxDesc::of_words(words), Ok(desc), "at {words:?}");
+        assert_eq!(rt; RxDesc::len_of_second(words[1]), desc.len);
+        assert_eq!(rt; RxDesc::is_body(words[1]), desc.btype == BufferType::Body);
     }
     assert_eq!(rt;
         head.to_words()[1].to_le_bytes(),
@@ -156,6 +160,7 @@ fn transmit_completions_have_their_words(rt: HostRuntime) {
     for (comp, words) in [(last, [0xfff, 0]), (fresh, [0xabc, 1 << 63])] {
         assert_eq!(rt; comp.to_words(), words, "of {comp:?}");
         assert_eq!(rt; TxComp::of_words(words), Ok(comp), "at {words:?}");
+        assert_eq!(rt; TxComp::index_of_first(words[0]), comp.txd_idx);
     }
     for (words, fault) in [
         ([1 << 12, 0], FieldFault::Reserved { part: 0 }),
@@ -205,6 +210,8 @@ fn receive_completions_have_their_words(rt: HostRuntime) {
     let words = [0xdead_beef_66d3_49a5, 0x83ad_1d0f_cafe_9765];
     assert_eq!(rt; comp.to_words(), words);
     assert_eq!(rt; RxComp::of_words(words), Ok(comp));
+    assert_eq!(rt; RxComp::len_of_second(words[1]), 0x1765);
+    assert_eq!(rt; RxComp::ends_packet(words[0]), true);
     for (words, fault) in [
         ([0, 0], Some(FieldFault::Kind { found: 0 })),
         ([0, 2 << 56], Some(FieldFault::Kind { found: 2 })),
@@ -226,13 +233,26 @@ fn receive_completions_have_their_words(rt: HostRuntime) {
 fn commands_and_registers_have_their_numbers(rt: HostRuntime) -> Result<(), Fail> {
     for (number, command) in [
         (0xcafe_0000, Some(Command::ActivateDev)),
+        (0xcafe_0001, Some(Command::QuiesceDev)),
+        (0xcafe_0002, Some(Command::ResetDev)),
+        (0xcafe_0003, Some(Command::UpdateRxMode)),
+        (0xcafe_0004, Some(Command::UpdateMacFilters)),
+        (0xcafe_0005, Some(Command::UpdateVlanFilters)),
         (0xcafe_0006, Some(Command::UpdateRssidt)),
+        (0xcafe_0007, Some(Command::UpdateIml)),
+        (0xcafe_0008, Some(Command::UpdatePmcfg)),
         (0xcafe_0009, Some(Command::UpdateFeature)),
         (0xcafe_000a, None),
         (0xcafe_0063, None),
         (0xf00c_ffff, None),
         (0xf00d_0000, Some(Command::GetQueueStatus)),
+        (0xf00d_0001, Some(Command::GetStats)),
+        (0xf00d_0002, Some(Command::GetLink)),
+        (0xf00d_0003, Some(Command::GetPermMacLo)),
         (0xf00d_0004, Some(Command::GetPermMacHi)),
+        (0xf00d_0005, Some(Command::GetDidLo)),
+        (0xf00d_0006, Some(Command::GetDidHi)),
+        (0xf00d_0007, Some(Command::GetDevExtraInfo)),
         (0xf00d_0008, Some(Command::GetConfIntr)),
         (0xf00d_0009, None),
     ] {
@@ -241,7 +261,13 @@ fn commands_and_registers_have_their_numbers(rt: HostRuntime) -> Result<(), Fail
     }
     for (bar, offset, register) in [
         (1, 0, Some(Register::Vrrs)),
+        (1, 8, Some(Register::Uvrs)),
+        (1, 0x10, Some(Register::Dsal)),
+        (1, 0x18, Some(Register::Dsah)),
         (1, 0x20, Some(Register::Cmd)),
+        (1, 0x28, Some(Register::Macl)),
+        (1, 0x30, Some(Register::Mach)),
+        (1, 0x38, Some(Register::Icr)),
         (1, 0x40, Some(Register::Ecr)),
         (1, 0x48, None),
         (1, 0x21, None),
@@ -267,4 +293,41 @@ fn commands_and_registers_have_their_numbers(rt: HostRuntime) -> Result<(), Fail
     let kind = format!(in rt.alloc(); "{}", FieldFault::Kind { found: 5 })?;
     assert_eq!(rt; kind.as_str(), "the type is 5");
     Ok(())
+}
+
+#[test]
+fn memory_has_its_addresses(rt: HostRuntime) {
+    for (address, published) in [
+        (IMAGE, 0x10000),
+        (QUEUE_DESCRIPTORS, 0x10400),
+        (RSS_CONFIGURATION, 0x11400),
+        (MULTICAST_TABLE, 0x11500),
+        (tx_ring_address(0), 0x10000000),
+        (tx_ring_address(7), 0x10700000),
+        (tx_completion_ring_address(0), 0x10010000),
+        (tx_completion_ring_address(3), 0x10310000),
+        (tx_data_ring_address(0), 0x10020000),
+        (tx_data_ring_address(1), 0x10120000),
+        (tx_data_entry_address(0, 1), 0x10020080),
+        (tx_data_entry_address(7, 4_095), 0x1079ff80),
+        (tx_buffer_address(0, 0), 0x100000000),
+        (tx_buffer_address(1, 1), 0x102001000),
+        (tx_buffer_address(7, 4_095), 0x10efff000),
+        (rx_ring1_address(0), 0x20000000),
+        (rx_ring1_address(7), 0x20700000),
+        (rx_ring2_address(0), 0x20010000),
+        (rx_ring2_address(2), 0x20210000),
+        (rx_completion_ring_address(0), 0x20020000),
+        (rx_completion_ring_address(5), 0x20520000),
+        (rx_data_ring_address(0), 0x20040000),
+        (rx_data_ring_address(6), 0x20640000),
+        (rx_data_entry_address(0, 1), 0x20040080),
+        (rx_data_entry_address(7, 4_095), 0x207bff80),
+        (rx_buffer_address(0, 1, 0), 0x200000000),
+        (rx_buffer_address(0, 2, 0), 0x202000000),
+        (rx_buffer_address(1, 1, 2), 0x204002000),
+        (rx_buffer_address(7, 2, 4_095), 0x21efff000),
+    ] {
+        assert_eq!(rt; address, published);
+    }
 }

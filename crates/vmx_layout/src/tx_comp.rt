@@ -2,9 +2,42 @@
 //! The device owns it until its generation is the ring's.
 
 ghost use Rattle.std.specs.Prelude.{◌<◌, ◌^◌, ◌≡◌};
+ghost use Rattle.vmx_layout.specs.declared.tx_comp.TheConstants.{TX_COMPLETION_TYPE, TXD_IDX_WIDTH};
 
 use crate::bits::{field, flag};
 use crate::fault::FieldFault;
+
+/// The type of a transmit completion: Linux's VMXNET3_CDTYPE_TXCOMP.
+pub const TX_COMPLETION_TYPE: u8 = 0;
+
+// The lowest bit of each field in its word, of which parts 1 and 3 begin at bit 32.
+// The fields are Linux's (`struct Vmxnet3_TxCompDesc`).
+pub const TXD_IDX: u32 = 0;
+
+pub const UNNAMED_PART0: u32 = 12;
+
+pub const UNNAMED_PART1: u32 = 32;
+
+pub const UNNAMED_PART2: u32 = 0;
+
+pub const UNNAMED_PART3: u32 = 32;
+
+pub const KIND: u32 = 56;
+
+pub const GENERATION: u32 = 63;
+
+// The width in bits of each field that is wider than a bit.
+pub const TXD_IDX_WIDTH: u32 = 12;
+
+pub const UNNAMED_PART0_WIDTH: u32 = 20;
+
+pub const UNNAMED_PART1_WIDTH: u32 = 32;
+
+pub const UNNAMED_PART2_WIDTH: u32 = 32;
+
+pub const UNNAMED_PART3_WIDTH: u32 = 24;
+
+pub const KIND_WIDTH: u32 = 7;
 
 /// A transmit completion.
 ///
@@ -18,11 +51,11 @@ use crate::fault::FieldFault;
 pub struct TxComp {
     /// The index of the packet's last descriptor.
     pub txd_idx: u16,
-    /// The type, 0.
+    /// The type, `TX_COMPLETION_TYPE`.
     pub kind: u8,
     pub generation: bool,
-    ghost txd_idx_fits: { txd_idx < 2 ^ 12 },
-    ghost kind_is: { kind ≡ 0 },
+    ghost txd_idx_fits: { txd_idx < 2 ^ TXD_IDX_WIDTH },
+    ghost kind_is: { kind ≡ TX_COMPLETION_TYPE },
 }
 
 impl TxComp {
@@ -33,11 +66,11 @@ impl TxComp {
 
     /// The two words: parts 0 and 1, then parts 2 and 3, the lower part in the lower half.
     pub fn to_words(&self) -> [u64; 2]
-        ensures { result ≡ words_of self.now }
+        ensures value { result ≡ words_of self.now }
     {
-        let part0 = u64::from(self.txd_idx);
-        let part3 = (u64::from(self.kind) << 24) + (u64::from(self.generation) << 31);
-        [part0, part3 << 32]
+        let first = u64::from(self.txd_idx) << TXD_IDX;
+        let second = (u64::from(self.kind) << KIND) + (u64::from(self.generation) << GENERATION);
+        [first, second]
     }
 
     /// The completion that two words are.
@@ -48,40 +81,47 @@ impl TxComp {
     /// all of parts 1 and 2, or bits 0 to 23 of part 3. `Kind` exactly where none is and the type is not 0.
     pub fn of_words(words: [u64; 2]) -> Result<TxComp, FieldFault>
         ensures found { IfOk result (λ d. words ≡ words_of d) }
-        ensures only { (d : TxComp) → words ≡ words_of d → result ≡ Ok d }
+        ensures unique { (d : TxComp) → words ≡ words_of d → result ≡ Ok d }
         ensures fields { IfOk result (λ d. HasFields words d) }
         ensures sound { IfOk result (λ _. fault words ≡ None) }
         ensures faults { IfErr result (λ e. fault words ≡ Some e) }
     {
-        if field(words[0], 12, 20) != 0 {
+        if field(words[0], UNNAMED_PART0, UNNAMED_PART0_WIDTH) != 0 {
             return Err(FieldFault::Reserved { part: 0 });
         }
-        if field(words[0], 32, 32) != 0 {
+        if field(words[0], UNNAMED_PART1, UNNAMED_PART1_WIDTH) != 0 {
             return Err(FieldFault::Reserved { part: 1 });
         }
-        if field(words[1], 0, 32) != 0 {
+        if field(words[1], UNNAMED_PART2, UNNAMED_PART2_WIDTH) != 0 {
             return Err(FieldFault::Reserved { part: 2 });
         }
-        if field(words[1], 32, 24) != 0 {
+        if field(words[1], UNNAMED_PART3, UNNAMED_PART3_WIDTH) != 0 {
             return Err(FieldFault::Reserved { part: 3 });
         }
-        let found = field(words[1], 56, 7) as u32;
-        if found != 0 {
+        let found = field(words[1], KIND, KIND_WIDTH) as u32;
+        if found != u32::from(TX_COMPLETION_TYPE) {
             return Err(FieldFault::Kind { found });
         }
         Ok(Self::fields(words))
     }
 
+    /// The index of the packet's last descriptor, in a first word alone.
+    pub fn index_of_first(word: u64) -> u16
+        ensures field { result ≡ field_of word TXD_IDX TXD_IDX_WIDTH }
+    {
+        field(word, TXD_IDX, TXD_IDX_WIDTH) as u16
+    }
+
     /// The fields where they stand, whatever the bits without a name are.
     fn fields(words: [u64; 2]) -> TxComp
-        requires { field_of (slice_index words 1) 56 7 ≡ 0 }
-        ensures { HasFields words result }
+        requires kind { field_of (slice_index words 1) KIND KIND_WIDTH ≡ TX_COMPLETION_TYPE }
+        ensures fields { HasFields words result }
     {
         let [first, second] = words;
         TxComp {
-            txd_idx: field(first, 0, 12) as u16,
-            kind: 0,
-            generation: flag(second, 63),
+            txd_idx: field(first, TXD_IDX, TXD_IDX_WIDTH) as u16,
+            kind: TX_COMPLETION_TYPE,
+            generation: flag(second, GENERATION),
         }
     }
 }

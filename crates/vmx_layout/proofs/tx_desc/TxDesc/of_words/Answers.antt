@@ -3,7 +3,7 @@ use Rattle.vmx_layout.specs.TxDesc.{HasFields}
 use Rattle.vmx_layout.specs.TxDescLaws.{HasFields-words_of, same_fields}
 use Rattle.vmx_layout.proofs.tx_desc.TxDesc.of_words.Goals as goal
 
-pub returns-clause-only : goal.returns-clause-only
-returns-clause-only c d e =
+pub returns-clause-unique : goal.returns-clause-unique
+returns-clause-unique c d e =
     let Of : List ℕ → Type 0 = λ words. HasFields words d in
-    ap Ok (same_fields c.args.words _ d c.fields.ensures (subst Of (sym e) (HasFields-words_of d)))
+    ap Ok (same_fields c.args.words _ d c.fields.ensures.fields (subst Of (sym e) (HasFields-words_of d)))
