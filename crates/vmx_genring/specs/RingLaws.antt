@@ -1,14 +1,14 @@
 -- What a generation bit tells, and why each step keeps it.
-use Rattle.std.proofs.Common.{◌≡◌, ◌≢◌, ℕ, zero, suc, ◌+◌, ◌-◌, ◌*◌, ◌/◌, ◌%◌, ◌^◌, ◌<◌, ◌≤◌, ◌↔◌, Some, List, [], ◌∷◌, ◌++◌, length, set, replicate, slice_index, refl, sym, ap, ◌∙◌, subst, inl, inr, arith, length-append, get_or-set_other, get_or-set_same}
+use Rattle.std.proofs.Common.{◌≡◌, ◌≢◌, ℕ, zero, suc, ◌==◌, if◌then◌else◌, Bool, true, false, Option, None, ◌+◌, ◌-◌, ◌*◌, ◌/◌, ◌%◌, ◌^◌, ◌<◌, ◌≤◌, ◌↔◌, Some, List, [], ◌∷◌, ◌++◌, length, set, replicate, slice_index, refl, sym, ap, ◌∙◌, subst, inl, inr, arith, length-append, get_or-set_other, get_or-set_same}
 use Rattle.std.proofs.Math.ListN.{length-set}
 use Rattle.std.proofs.Math.Nat.{mul-le-mul_right, add-mul}
 use Rattle.std.specs.Int.{bit_at}
 use Rattle.std.proofs.lemmas.Bool.{cases_lt, cases_eq}
-use Rattle.std.proofs.lemmas.List.{get_or_append_left, get_or_push, get_or-replicate, length-replicate}
+use Rattle.std.proofs.lemmas.List.{get_or_append_left, get_or_push, get_or-replicate, length-replicate, set-get_or}
 use Rattle.std.proofs.lemmas.Nat.{div-add-mod', div-mul-add, mod_below}
 use Rattle.std.proofs.lemmas.Nat.Bits.{bit_at_xor, bit_at-pow_same, bit_at-zero}
-use Rattle.vmx_genring.specs.Rings.{generation_bit, flipped, Entry, Contents, entry_at, StandFor}
-use Rattle.vmx_genring.specs.Steps.{staged, published, Begins, StoresFirst, StagesFirst, Stages, Publishes, PublishesOne, Consumes}
+use Rattle.vmx_genring.specs.Rings.{generation, generation_bit, flipped, Entry, Contents, entry_at, StandFor}
+use Rattle.vmx_genring.specs.Steps.{staged, published, Begins, StoresFirst, StagesFirst, Stages, Publishes, PublishesOne, FirstStands, Reposts, Consumes, FirstShows, GenerationIsBit, GenerationTells}
 
 -- positions less than a lap apart have different indices
 pub elsewhere : (size p q : ℕ) → p < q → q < p + size → p % size ≢ q % size
@@ -297,3 +297,44 @@ consumes size k count firsts seconds c stand most =
       next_room = λ word opened. let free = stand.next_room word opened in omega arith;
       next_first = stand.next_first;
     }
+
+pub first_stands : FirstStands
+first_stands size k word firsts seconds c some stand room is =
+    let at : ℕ = length c.entries % size in
+    let kept : set firsts at word ≡ firsts = ap (λ (w : ℕ). set firsts at w) (sym is) ∙ set-get_or firsts at 0 in
+    let Stands : List ℕ → Type 0 = λ ws. StandFor size k ws seconds (record c { next = Some word }) in
+    subst Stands kept (stores_first size k word firsts seconds c some stand room)
+
+pub reposts : Reposts
+reposts size k firsts seconds c e some stand room is generation_is none =
+    publishes_one size k firsts seconds (record c { next = Some e.first }) e some (first_stands size k e.first firsts seconds c some stand room is) refl generation_is none
+
+pub first_shows : FirstShows
+first_shows size k firsts seconds c p stand low high =
+    let room = stand.room in stand.first p high (omega arith) (λ e. by_next c.next refl e)
+  where
+    by_next : (o : Option ℕ) → c.next ≡ o → p + size ≡ length c.entries → c.next ≡ None
+    by_next None is e = is
+    by_next (Some w) is e = let room = stand.next_room w is in absurd (omega arith)
+
+-- by the lap's evenness
+bit_by : (n : ℕ) → n < 2 → 1 - n ≡ (if n == 0 then 1 else 0)
+bit_by zero less = refl
+bit_by (suc zero) less = refl
+bit_by (suc (suc n)) less = absurd (omega arith)
+
+pub generation_is_bit : GenerationIsBit
+generation_is_bit size p = bit_by (p / size % 2) (omega arith)
+
+-- a bit and a truth value
+told_by : (b : ℕ) (g : Bool) → b < 2 → (b ≡ (if g then 1 else 0)) ↔ ((b == 1) ≡ g)
+told_by zero true less = (λ e. absurd (omega arith), λ e. absurd (cc e))
+told_by zero false less = (λ _. refl, λ _. refl)
+told_by (suc zero) true less = (λ _. refl, λ _. refl)
+told_by (suc zero) false less = (λ e. absurd (omega arith), λ e. absurd (cc e))
+told_by (suc (suc n)) g less = absurd (omega arith)
+
+pub generation_tells : GenerationTells
+generation_tells size p k word =
+    let told = told_by (bit_at word k) (generation size p) (omega arith) in
+    (λ same. told.0 (same ∙ generation_is_bit size p), λ same. told.1 same ∙ sym (generation_is_bit size p))

@@ -10,7 +10,8 @@ mod laws;
 mod ring;
 
 pub use laws::{
-    begins, first_is_staged, first_word_is_stored, later_is_staged, one_is_published,
+    begins, first_is_staged, first_word_is_stored, first_word_shows, first_word_stands,
+    generation_is_bit, generation_tells, later_is_staged, one_is_published, one_is_reposted,
     published_are_consumed, staged_are_published,
 };
 pub use ring::Ring;

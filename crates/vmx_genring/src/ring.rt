@@ -16,7 +16,7 @@ impl Ring {
     pub fn new(size: u32) -> Ring
         requires some { 0 < size }
         requires most { size ≤ 8192 }
-        ensures { result.size ≡ size }
+        ensures size { result.size ≡ size }
     {
         Ring { size }
     }
@@ -31,7 +31,7 @@ impl Ring {
 
     /// The generation of the position: true in the first lap of the ring, false in the second, and so on.
     pub fn generation(&self, position: u64) -> bool
-        ensures { result ≡ generation self.now.size position }
+        ensures value { result ≡ generation self.now.size position }
     {
         position / u64::from(self.size) % 2 == 0
     }
@@ -40,8 +40,8 @@ impl Ring {
     /// published and consumed, whether the position is published, from the first unconsumed one up to the first
     /// that is not published.
     pub fn owned(&self, word: u64, bit: u32, position: u64) -> bool
-        requires { bit < 64 }
-        ensures exact { IsTrue result ↔ (bit_at word bit ≡ generation_bit self.now.size position) }
+        requires bit { bit < 64 }
+        ensures owner { IsTrue result ↔ (bit_at word bit ≡ generation_bit self.now.size position) }
         ensures published { (firsts seconds : List ℕ) (c : Contents) → StandFor self.now.size bit firsts seconds c
             → word ≡ slice_index seconds (index_of self.now.size position) → c.consumed ≤ position → position ≤ c.published
             → IsTrue result ↔ (position < c.published) }
@@ -50,8 +50,8 @@ impl Ring {
     }
 
     fn has_generation(&self, word: u64, bit: u32, position: u64) -> bool
-        requires { bit < 64 }
-        ensures exact { IsTrue result ↔ (bit_at word bit ≡ generation_bit self.now.size position) }
+        requires bit { bit < 64 }
+        ensures owner { IsTrue result ↔ (bit_at word bit ≡ generation_bit self.now.size position) }
         ensures some { 0 < self.now.size }
     {
         (word >> bit & 1 == 1) == self.generation(position)

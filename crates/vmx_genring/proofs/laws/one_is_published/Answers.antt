@@ -2,4 +2,4 @@ use Rattle.vmx_genring.specs.RingLaws.{publishes_one}
 use Rattle.vmx_genring.proofs.laws.one_is_published.Goals as goal
 
 pub returns : goal.returns
-returns c = publishes_one
+returns c = record { law = publishes_one }

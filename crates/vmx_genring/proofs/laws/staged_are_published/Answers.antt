@@ -2,4 +2,4 @@ use Rattle.vmx_genring.specs.RingLaws.{publishes}
 use Rattle.vmx_genring.proofs.laws.staged_are_published.Goals as goal
 
 pub returns : goal.returns
-returns c = publishes
+returns c = record { law = publishes }
