@@ -1,7 +1,8 @@
 -- Lists read by position, and prefixes.
 use Rattle.std.specs.Prelude.{◌≡◌, ℕ, suc, ◌<◌, ◌≤◌, ◌⊎◌, List, [], ◌∷◌, ◌++◌, length, take, map, Bool, true, false, nat_lt}
-use Rattle.std.proofs.Common.{zero, drop, inl, inr, sym, refl, ap, ◌∙◌, ⊎_elim, arith, append_assoc, length-append, take-append-drop}
+use Rattle.std.proofs.Common.{zero, drop, inl, inr, sym, refl, ap, ◌∙◌, subst, ⊎_elim, arith, append_assoc, length-append, take-append-drop}
 use Rattle.std.proofs.lemmas.Bool.{ltb-true, ltb-false}
+use Rattle.std.proofs.Math.Seq.{take-append_seam}
 use mathlib.Core.Logic.{dite}
 use mathlib.Core.List.{IsPrefix}
 use mathlib.Core.Option.{some, some-injective, some-ne-none}
@@ -84,6 +85,10 @@ module _ {A : Type 0} where
 
   pub prefix_beside_take : (xs l : List A) (n : ℕ) → IsPrefix xs l → AreComparable xs (take n l)
   prefix_beside_take xs l n p = dite (dec_le (length xs) n) (λ few. inl (prefix_of_take xs l n p few)) (λ many. inr (take_of_prefix xs l n p (omega arith)))
+
+  -- two prefixes of one list are comparable
+  pub beside : (xs ys l : List A) → IsPrefix xs l → IsPrefix ys l → AreComparable xs ys
+  beside xs ys l p q = subst (AreComparable xs) (ap (take (length ys)) (sym q.1) ∙ take-append_seam ys q.0) (prefix_beside_take xs l (length ys) p)
 
   abbrev pub second_if : Bool → List A → List A → List A
   second_if true xs ys = ys

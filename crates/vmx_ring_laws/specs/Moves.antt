@@ -8,8 +8,8 @@ use native.Mathlib.Decide.{ℕ_discrete, dec_lt}
 use native.Mathlib.Nat.{add-mod_right}
 use lib.ListN.{get_elem?}
 use Rattle.atomic_table.proofs.Lists.{one_turn}
-use Rattle.vmx_laps.specs.Lap.{Lap, SameBut, window}
-use Rattle.vmx_laps.specs.Lists.{at_below, there_below, snoc_cases}
+use Rattle.vmx_ring_laws.specs.Lap.{Lap, SameBut, window}
+use Rattle.vmx_ring_laws.specs.Lists.{at_below, there_below, snoc_cases}
 
 -- two positions less than one lap apart have different cells
 pub elsewhere : (n p q : ℕ) → p < q → q < p + n → q % n ≢ p % n
@@ -31,6 +31,16 @@ module _ {W E : Type 0} (n : ℕ) where
     free = λ p le less. dite (ℕ_discrete (p % n) i)
         (λ here. subst (λ (j : ℕ). Free' p (cell' j)) (sym here) (d p le less here (subst (λ (j : ℕ). Free p (cell j)) here (r.free p le less))))
         (λ other. subst (Free' p) (sym (same (p % n) (mod-lt p pos) other)) (b p (cell (p % n)) le less other (r.free p le less)));
+  }
+
+  -- nothing goes in or leaves, and the cells are the same
+  pub cells_same : (cell cell' : ℕ → W) (In : ℕ → E → W → Type 0) (Free : ℕ → W → Type 0) (log : List E) (from : ℕ) → Lap n cell In Free log from → ((i : ℕ) → i < n → cell' i ≡ cell i) → Lap n cell' In Free log from
+  cells_same cell cell' In Free log from r same = let pos = r.some_cell in record {
+    some_cell = pos;
+    behind = r.behind;
+    within = r.within;
+    full = λ p e le at. subst (In p e) (sym (same (p % n) (mod-lt p pos))) (r.full p e le at);
+    free = λ p le less. subst (Free p) (sym (same (p % n) (mod-lt p pos))) (r.free p le less);
   }
 
   -- an entry goes behind the others, into the cell of its position

@@ -4,7 +4,7 @@ use Rattle.std.proofs.Common.{zero, sym, ap, subst, ⊎_elim, arith}
 use mathlib.Core.Option.{some, some-injective, some-ne-none}
 use lib.ListN.{get_elem?}
 use Rattle.atomic_table.proofs.Lists.{at_set}
-use Rattle.vmx_laps.specs.Lists.{snoc_cases}
+use Rattle.vmx_ring_laws.specs.Lists.{snoc_cases}
 
 module _ {V : Type 0} where
   -- F holds of each seat, by its number, and its view

@@ -5,3 +5,5 @@ pub mod Views
 pub mod Steps
 pub mod Keys
 pub mod Laws
+pub mod Rows
+pub mod Windows

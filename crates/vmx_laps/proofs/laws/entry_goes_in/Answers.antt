@@ -1,5 +1,0 @@
-use Rattle.vmx_laps.specs.Moves.{puts}
-use Rattle.vmx_laps.proofs.laws.entry_goes_in.Goals as goal
-
-pub returns : goal.returns
-returns g c = λ n cell new log from e r room same shows. puts n cell new _ _ _ _ log from e r room same shows (λ p z w le at f. f) (λ p w more less f. f)

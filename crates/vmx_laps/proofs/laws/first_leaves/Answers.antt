@@ -1,5 +1,0 @@
-use Rattle.vmx_laps.specs.Moves.{leaves}
-use Rattle.vmx_laps.proofs.laws.first_leaves.Goals as goal
-
-pub returns : goal.returns
-returns g c = λ n cell new log from r some_in same waits. leaves n cell new _ _ _ _ log from r some_in same waits (λ p z w more at f. f) (λ p w le less f. f)
