@@ -4,6 +4,7 @@ use Rattle.vmx_pcap.specs.declared.records.Stamped.{Stamped}
 use Rattle.vmx_pcap.specs.declared.records.Capture.{Capture}
 use Rattle.vmx_pcap.specs.declared.fault.CaptureFault.{CaptureFault}
 use Rattle.vmx_pcap.specs.declared.fault.CaptureFault.TheVariants.{Header, Form, Memory}
+use Rattle.vmx_pcap.specs.declared.format.TheConstants.{FILE_HEADER_SIZE}
 use Rattle.vmx_pcap.specs.Capture.{IsHeader, IsWhole, IsLong, AreRecords, IsCapture}
 
 -- after at most `most` whole records stands a captured length above the limit, or after just `most` another whole record
@@ -14,13 +15,13 @@ pub record BreaksOff (body : List ℕ) (most : ℕ) : Type 0 where
   pub fit : length records ≤ most
   pub here : IsLong rest ⊎ ((length records ≡ most) × IsWhole rest)
 
--- 24 bytes are there, and they are no header that is read, or what follows breaks off
+-- a header's bytes are there, and they are no header that is read, or what follows breaks off
 abbrev pub IsForm : List ℕ → ℕ → Type 0
-IsForm bytes most = (24 ≤ length bytes) × ((IsHeader bytes → ⊥) ⊎ BreaksOff (drop 24 bytes) most)
+IsForm bytes most = (FILE_HEADER_SIZE ≤ length bytes) × ((IsHeader bytes → ⊥) ⊎ BreaksOff (drop FILE_HEADER_SIZE bytes) most)
 
 -- the cause of each fault; want of memory needs none
 abbrev pub HasFault : CaptureFault → List ℕ → ℕ → Type 0
-HasFault (Header len) bytes most = (length bytes < 24) × (len ≡ length bytes)
+HasFault (Header len) bytes most = (length bytes < FILE_HEADER_SIZE) × (len ≡ length bytes)
 HasFault Form bytes most = IsForm bytes most
 HasFault Memory bytes most = Unit {0}
 

@@ -4,6 +4,7 @@ use Rattle.vmx_pcap.specs.declared.records.Stamped.{Stamped}
 use Rattle.vmx_pcap.specs.declared.records.Capture.{Capture}
 use Rattle.vmx_pcap.specs.declared.fault.CaptureFault.{CaptureFault}
 use Rattle.vmx_pcap.specs.declared.fault.CaptureFault.TheVariants.{Header, Form, Memory}
+use Rattle.vmx_pcap.specs.declared.format.TheConstants.{FILE_HEADER_SIZE}
 use Rattle.vmx_pcap.specs.Capture.{AreRecords, IsWhole, IsLong, IsTail, IsCapture, after_record}
 use Rattle.vmx_pcap.specs.Faults.{IsForm, BreaksOff, HasFault, Reads, OneOf}
 
@@ -50,13 +51,13 @@ err e = Err e
 
 same_capture : (bytes : List ℕ) (c d : Capture) → IsCapture bytes c.records c.tail → IsCapture bytes d.records d.tail → c ≡ d
 same_capture bytes c d p q =
-    let same = same_end (drop 24 bytes) c.records d.records p.rest q.rest p.body (tail_not_whole p.rest p.ends) q.body (tail_not_whole q.rest q.ends) in
+    let same = same_end (drop FILE_HEADER_SIZE bytes) c.records d.records p.rest q.rest p.body (tail_not_whole p.rest p.ends) q.body (tail_not_whole q.rest q.ends) in
     let tails : c.tail ≡ d.tail = p.count ∙ ap length same.1 ∙ sym q.count in
     λ i. record { records = same.0 i; tail = tails i }
 
 no_capture : (bytes : List ℕ) (most : ℕ) (c : Capture) → IsCapture bytes c.records c.tail → length c.records ≤ most → IsForm bytes most → ⊥
 no_capture bytes most c p fit (long, inl other) = other p.header
-no_capture bytes most c p fit (long, inr off) = not_both (drop 24 bytes) most c.records p.rest p.body p.ends fit off
+no_capture bytes most c p fit (long, inr off) = not_both (drop FILE_HEADER_SIZE bytes) most c.records p.rest p.body p.ends fit off
 
 pub reads_one : (bytes : List ℕ) (most : ℕ) (r s : Result Capture CaptureFault) → Reads s bytes most → Reads r bytes most → OneOf r s
 reads_one bytes most (Ok c) (Ok d) q p = inr (ap ok (same_capture bytes c d p.0 q.0))

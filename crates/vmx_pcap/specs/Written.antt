@@ -1,12 +1,13 @@
 -- The bytes of a capture that is written: the file header, and each record in order.
-use Rattle.std.specs.Prelude.{ℕ, ◌<◌, ◌≤◌, ◌^◌, List, [], ◌∷◌, ◌++◌, length}
+use Rattle.std.specs.Prelude.{ℕ, ◌<◌, ◌≤◌, ◌^◌, List, ◌++◌, length}
 use Rattle.std.specs.List.{flat_map}
+use Rattle.vmx_pcap.specs.declared.format.TheConstants.{FILE_HEADER, MAX_CAPTURED}
 use Rattle.vmx_pcap.specs.declared.records.Stamped.{Stamped}
 use Rattle.vmx_pcap.specs.Fields.{u32_bytes}
 
 -- magic number (little-endian, microseconds), version 2.4, time zone and accuracy 0, snap length 65,535, Ethernet
 unfoldable pub header_bytes : List ℕ
-header_bytes = 0xd4 ∷ 0xc3 ∷ 0xb2 ∷ 0xa1 ∷ 2 ∷ 0 ∷ 4 ∷ 0 ∷ 0 ∷ 0 ∷ 0 ∷ 0 ∷ 0 ∷ 0 ∷ 0 ∷ 0 ∷ 0xff ∷ 0xff ∷ 0 ∷ 0 ∷ 1 ∷ 0 ∷ 0 ∷ 0 ∷ []
+header_bytes = FILE_HEADER
 
 -- a record: seconds, microseconds, captured and original length, the frame
 abbrev pub record_bytes : Stamped → List ℕ
@@ -20,4 +21,4 @@ capture_bytes records = header_bytes ++ flat_map record_bytes records
 pub record Fits (r : Stamped) : Type 0 where
   pub seconds : r.seconds < 2 ^ 32
   pub micros : r.micros < 2 ^ 32
-  pub frame : length r.frame ≤ 262144
+  pub frame : length r.frame ≤ MAX_CAPTURED

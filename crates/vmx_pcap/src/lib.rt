@@ -6,11 +6,13 @@
 
 mod fault;
 mod fields;
+mod format;
 mod reader;
 mod records;
 mod writer;
 
 pub use fault::CaptureFault;
+pub use format::{MAX_CAPTURE, MAX_CAPTURED, SNAP_LENGTH};
 pub use reader::read;
 pub use records::{Capture, Stamped};
 pub use writer::{CaptureWriter, write, write_over};

@@ -8,48 +8,38 @@ ghost use Rattle.vmx_pcap.specs.Front.{IsFront};
 
 use crate::fault::CaptureFault;
 use crate::fields::{u16_field, u32_field};
+use crate::format::{
+    CAPTURED_OFFSET, FILE_HEADER_SIZE, LINK_ETHERNET, LINK_OFFSET, MAGIC, MAJOR_OFFSET,
+    MAX_CAPTURE, MAX_CAPTURED, MICROS_OFFSET, MINOR_OFFSET, RECORD_HEADER_SIZE, SECONDS_OFFSET,
+    VERSION_MAJOR, VERSION_MINOR,
+};
 use crate::records::{Capture, Stamped};
 use std::alloc::{AllocError, Global};
 use vmx_io::{Bytes, List};
 
-/// The magic number of little-endian captures in microseconds, as its bytes stand in the file.
-const MAGIC: [u8; 4] = [0xd4, 0xc3, 0xb2, 0xa1];
-
-/// The link type of Ethernet.
-const ETHERNET: u32 = 1;
-
-/// The length of the file header, in bytes.
-const FILE_HEADER: usize = 24;
-
-/// The length of a record's header, in bytes.
-const RECORD_HEADER: usize = 16;
-
-/// The greatest captured length that is read, in bytes.
-const LONGEST: u32 = 262_144;
-
 /// Reads a capture of at most `most` records.
 ///
-/// The caller keeps the file within 67,108,864 bytes. `Header` comes exactly where fewer than 24 bytes are there,
+/// The caller keeps the file within 67,108,864 bytes (`MAX_CAPTURE`). `Header` comes exactly where fewer than 24 bytes are there,
 /// and `Form` exactly where 24 are there and the magic number is not that of little-endian microseconds, the version
 /// is not 2.4, the link type is not Ethernet, a captured length is above 262,144, or another whole record follows
 /// after `most`. A last record that is cut is no fault: its bytes are the tail.
 #[tactic(auto, using(crate::specs::Unique::reads_one))]
 pub fn read(alloc: Global, bytes: &[u8], most: u32) -> Result<Capture, CaptureFault>
-    requires { length bytes.now ≤ 67108864 }
+    requires size { length bytes.now ≤ MAX_CAPTURE }
     // What the answer says of the bytes.
     ensures reads { Reads result bytes.now most }
     // No other answer says something true of them, but want of memory.
-    ensures exact { (other : Result Capture CaptureFault) → Reads other bytes.now most → OneOf other result }
+    ensures unique { (other : Result Capture CaptureFault) → Reads other bytes.now most → OneOf other result }
 {
     read_file(alloc, bytes, most)
 }
 
 #[tactic(auto, using(crate::proofs::Bodies::capture_of, crate::proofs::Bodies::body_fault))]
 fn read_file(alloc: Global, bytes: &[u8], most: u32) -> Result<Capture, CaptureFault>
-    requires { length bytes.now ≤ 67108864 }
+    requires size { length bytes.now ≤ MAX_CAPTURE }
     ensures reads { Reads result bytes.now most }
 {
-    if bytes.len() < FILE_HEADER {
+    if bytes.len() < FILE_HEADER_SIZE {
         return Err(CaptureFault::Header {
             len: bytes.len() as u32,
         });
@@ -57,7 +47,7 @@ fn read_file(alloc: Global, bytes: &[u8], most: u32) -> Result<Capture, CaptureF
     if !is_header(bytes) {
         return Err(CaptureFault::Form);
     }
-    let (_, body) = bytes.split_at(FILE_HEADER);
+    let (_, body) = bytes.split_at(FILE_HEADER_SIZE);
     match read_records(alloc, body, most) {
         Ok((records, tail)) => Ok(Capture {
             records: List::of(records),
@@ -69,14 +59,14 @@ fn read_file(alloc: Global, bytes: &[u8], most: u32) -> Result<Capture, CaptureF
 
 /// Whether the bytes begin with the header of a capture that is read.
 fn is_header(bytes: &[u8]) -> bool
-    requires { 24 ≤ length bytes.now }
+    requires size { FILE_HEADER_SIZE ≤ length bytes.now }
     ensures yes { result ≡ true → IsHeader bytes.now }
     ensures no { result ≡ false → IsHeader bytes.now → ⊥ }
 {
-    bytes[..4] == MAGIC[..]
-        && u16_field(bytes, 4) == 2
-        && u16_field(bytes, 6) == 4
-        && u32_field(bytes, 20) == ETHERNET
+    bytes[..MAJOR_OFFSET] == MAGIC[..]
+        && u16_field(bytes, MAJOR_OFFSET) == VERSION_MAJOR
+        && u16_field(bytes, MINOR_OFFSET) == VERSION_MINOR
+        && u32_field(bytes, LINK_OFFSET) == LINK_ETHERNET
 }
 
 /// The whole records that the bytes begin with, and the tail after them.
@@ -121,15 +111,15 @@ enum Front {
 fn front_of(bytes: &[u8]) -> Front
     ensures front { IsFront result bytes.now }
 {
-    if bytes.len() < RECORD_HEADER {
+    if bytes.len() < RECORD_HEADER_SIZE {
         return Front::Tail;
     }
-    let captured = u32_field(bytes, 8);
-    if captured > LONGEST {
+    let captured = u32_field(bytes, CAPTURED_OFFSET);
+    if captured > MAX_CAPTURED {
         return Front::Long;
     }
     let len = captured as usize;
-    if bytes.len() < RECORD_HEADER + len {
+    if bytes.len() < RECORD_HEADER_SIZE + len {
         return Front::Tail;
     }
     Front::Whole(len)
@@ -142,9 +132,9 @@ fn record_of(alloc: Global, bytes: &[u8], len: usize) -> Result<Stamped, AllocEr
     ensures stamped { IfOk result (λ r. r ≡ record_at bytes.now) }
 {
     Ok(Stamped {
-        seconds: u32_field(bytes, 0),
-        micros: u32_field(bytes, 4),
-        frame: Bytes::from_slice(alloc, &bytes[RECORD_HEADER..RECORD_HEADER + len])?,
+        seconds: u32_field(bytes, SECONDS_OFFSET),
+        micros: u32_field(bytes, MICROS_OFFSET),
+        frame: Bytes::from_slice(alloc, &bytes[RECORD_HEADER_SIZE..RECORD_HEADER_SIZE + len])?,
     })
 }
 
@@ -154,5 +144,5 @@ fn rest_of(bytes: &[u8], len: usize) -> &[u8]
     requires len { len ≡ captured_length bytes.now }
     ensures rest { result.now ≡ after_record bytes.now }
 {
-    &bytes[RECORD_HEADER + len..]
+    &bytes[RECORD_HEADER_SIZE + len..]
 }

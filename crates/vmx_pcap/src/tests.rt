@@ -38,7 +38,7 @@ enum Answer {
 }
 
 fn answer_of(rt: &impl Abort, alloc: Global, bytes: &[u8], most: u32) -> Answer {
-    assert!(rt; bytes.len() <= 67_108_864);
+    assert!(rt; bytes.len() <= MAX_CAPTURE);
     match read(alloc, bytes, most) {
         Ok(capture) => Answer::Read(capture.records.len(), capture.tail),
         Err(CaptureFault::Header { len }) => Answer::Header(len),
@@ -135,7 +135,7 @@ fn reads_whole_records_and_a_tail(rt: HostRuntime) -> Result<(), Fail> {
 fn keeps_stamps_and_frames(rt: HostRuntime) -> Result<(), Fail> {
     let alloc = rt.alloc();
     let bytes = laid_out(alloc, &[(60, 60), (1514, 1514), (60, 60)])?;
-    assert!(rt; bytes.len() <= 67_108_864);
+    assert!(rt; bytes.len() <= MAX_CAPTURE);
     let capture = read(alloc, &bytes, 3)?;
     assert_eq!(rt; capture.records.len(), 3);
     assert_eq!(rt; capture.tail, 0);

@@ -6,36 +6,29 @@ ghost use Rattle.vmx_pcap.specs.Capture.{IsCapture};
 ghost use Rattle.vmx_pcap.specs.Fields.{u32_bytes};
 ghost use Rattle.vmx_pcap.specs.Written.{Fits, record_bytes, header_bytes, capture_bytes};
 
+use crate::format::{FILE_HEADER, RECORD_HEADER_SIZE, SNAP_LENGTH};
 use crate::records::Stamped;
 use byteorder::{ByteOrder, LittleEndian};
 use std::alloc::{AllocError, Global};
 use std::marker::Model;
 use vmx_io::Bytes;
 
-/// The file header: magic number, version 2.4, time zone and accuracy 0, snap length 65,535, Ethernet.
-const FILE_HEADER: [u8; 24] = [
-    0xd4, 0xc3, 0xb2, 0xa1, 2, 0, 4, 0, 0, 0, 0, 0, 0, 0, 0, 0, 0xff, 0xff, 0, 0, 1, 0, 0, 0,
-];
-
-/// The length of a record's header, in bytes.
-const RECORD_HEADER: usize = 16;
-
 /// The capture of these records, each of at most 65,535 bytes.
 pub fn write(alloc: Global, records: &[Stamped]) -> Result<Bytes, AllocError>
-    requires { All (λ r. length r.frame ≤ 65535) records.now }
+    requires short { All (λ r. length r.frame ≤ SNAP_LENGTH) records.now }
     // The file header and the records in order.
     ensures bytes { IfOk result (λ b. b ≡ capture_bytes records.now) }
     // They are a capture of just these records.
-    ensures again { IfOk result (λ b. IsCapture b records.now 0) }
+    ensures round_trip { IfOk result (λ b. IsCapture b records.now 0) }
 {
     write_over(Bytes::new(alloc), records)
 }
 
 /// As `write`, in the memory of `old`, whose bytes are given up. It grows only where that is too short.
 pub fn write_over(old: Bytes, records: &[Stamped]) -> Result<Bytes, AllocError>
-    requires { All (λ r. length r.frame ≤ 65535) records.now }
+    requires short { All (λ r. length r.frame ≤ SNAP_LENGTH) records.now }
     ensures bytes { IfOk result (λ b. b ≡ capture_bytes records.now) }
-    ensures again { IfOk result (λ b. IsCapture b records.now 0) }
+    ensures round_trip { IfOk result (λ b. IsCapture b records.now 0) }
 {
     let mut out = CaptureWriter::over(old, room_of(records))?;
     for r in records {
@@ -45,7 +38,7 @@ pub fn write_over(old: Bytes, records: &[Stamped]) -> Result<Bytes, AllocError>
 }
 
 fn push_record(out: &mut CaptureWriter, r: &Stamped) -> Result<(), AllocError>
-    requires { length r.now.frame ≤ 65535 }
+    requires short { length r.now.frame ≤ SNAP_LENGTH }
     ensures bytes { OnOk result (out.new ≡ out.old ++ record_bytes r.now) }
     ensures fits { OnOk result (Fits r.now) }
 {
@@ -55,7 +48,7 @@ fn push_record(out: &mut CaptureWriter, r: &Stamped) -> Result<(), AllocError>
 /// The number of bytes of these records, or the greatest number where that is more.
 fn room_of(records: &[Stamped]) -> usize {
     records.iter().fold(0, |room, r| {
-        room.saturating_add(RECORD_HEADER)
+        room.saturating_add(RECORD_HEADER_SIZE)
             .saturating_add(r.frame.len())
     })
 }
@@ -96,12 +89,12 @@ impl CaptureWriter {
 
     /// Appends a record with this stamp. Where there is no memory, nothing is appended.
     pub fn push(&mut self, seconds: u32, micros: u32, frame: &[u8]) -> Result<(), AllocError>
-        requires { length frame.now ≤ 65535 }
+        requires short { length frame.now ≤ SNAP_LENGTH }
         ensures ok { OnOk result (self.new ≡ self.old ++ record_bytes (record { seconds = seconds; micros = micros; frame = frame.now })) }
         ensures err { OnErr result (self.new ≡ self.old) }
     {
         let header = record_header(seconds, micros, frame.len() as u32);
-        self.bytes.reserve(RECORD_HEADER + frame.len())?;
+        self.bytes.reserve(RECORD_HEADER_SIZE + frame.len())?;
         self.bytes.extend_from_slice(&header)?;
         self.bytes.extend_from_slice(frame)
     }
@@ -117,10 +110,10 @@ impl CaptureWriter {
 
 /// The header of a record whose frame has `len` bytes.
 #[tactic(auto, unfolding(crate::specs::Fields::u32_bytes))]
-fn record_header(seconds: u32, micros: u32, len: u32) -> [u8; 16]
+fn record_header(seconds: u32, micros: u32, len: u32) -> [u8; RECORD_HEADER_SIZE]
     ensures fields { result ≡ u32_bytes seconds ++ u32_bytes micros ++ u32_bytes len ++ u32_bytes len }
 {
-    let mut header = [0; RECORD_HEADER];
+    let mut header = [0; RECORD_HEADER_SIZE];
     LittleEndian::write_u32_into(&[seconds, micros, len, len], &mut header);
     header
 }
