@@ -4,10 +4,11 @@ use Rattle.std.specs.List.{list_all}
 use Rattle.vmx_frame.specs.Bytes.{u16_at}
 use Rattle.vmx_frame.specs.declared.kinds.Class.{Class}
 use Rattle.vmx_frame.specs.declared.kinds.Class.TheVariants.{Broadcast, Multicast, Unicast}
+use Rattle.vmx_frame.specs.declared.ethernet.TheConstants.{ADDRESS_LEN, TYPE_AT, TCI_AT, TAGGED_HEADER_LEN, TAG_TYPE, VLAN_COUNT}
 
 -- the destination address, the first six bytes (IEEE 802.3)
 abbrev pub destination : List ℕ → List ℕ
-destination frame = slice_range frame 0 6
+destination frame = slice_range frame 0 ADDRESS_LEN
 
 -- broadcast is all ones; else the lowest bit of the first byte marks a group (IEEE 802.3)
 unfoldable pub class_of : List ℕ → Class
@@ -21,10 +22,14 @@ names_group Broadcast = true
 names_group Multicast = true
 names_group Unicast = false
 
--- the type 0x8100 where a tag and a type fit (IEEE 802.1Q; the least length is own)
+-- the type of a tag behind the addresses, where a tag and a type fit (IEEE 802.1Q; the least length is own)
 unfoldable pub is_tagged : List ℕ → Bool
-is_tagged frame = nat_le 18 (length frame) && u16_at frame 12 == 0x8100
+is_tagged frame = nat_le TAGGED_HEADER_LEN (length frame) && u16_at frame TYPE_AT == TAG_TYPE
 
--- the VLAN, the lower 12 bits behind the tag's type (IEEE 802.1Q)
+-- the VLAN of a tag's two control bytes, their lower 12 bits (IEEE 802.1Q)
+abbrev pub vlan_of : ℕ → ℕ
+vlan_of tci = tci % VLAN_COUNT
+
+-- the VLAN of a frame, where it has a tag
 unfoldable pub tag_of : List ℕ → Option ℕ
-tag_of frame = if is_tagged frame then Some (u16_at frame 14 % 4096) else None
+tag_of frame = if is_tagged frame then Some (vlan_of (u16_at frame TCI_AT)) else None

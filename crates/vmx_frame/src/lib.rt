@@ -9,10 +9,15 @@ mod bytes;
 mod ethernet;
 mod internet;
 mod kinds;
+mod tagging;
 
-pub use ethernet::{class, tag};
+pub use ethernet::{
+    ADDRESS_LEN, HEADER_LEN, TAG_TYPE, TAGGED_HEADER_LEN, TAGGED_TYPE_AT, TCI_AT, TYPE_AT,
+    VLAN_COUNT, class, is_tagged, tag,
+};
 pub use internet::flow;
 pub use kinds::{Class, Flow, Ports};
+pub use tagging::{TAG_LEN, put, strip};
 
 #[cfg(test)]
 mod tests;

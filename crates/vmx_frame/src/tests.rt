@@ -1,6 +1,9 @@
 //! Frames by hand: the readings that no clause can tell from a misreading.
 
+ghost use Rattle.std.specs.Prelude.{◌≤◌, length};
+
 use super::*;
+use std::alloc::{AllocError, Global};
 
 /// A TCP segment with no payload from 192.0.2.1 port 4,660 to 198.51.100.7 port 80, over IPv4.
 const OVER_V4: [u8; 54] = [
@@ -132,6 +135,58 @@ fn a_tag_needs_eighteen_bytes(rt: HostRuntime) {
     assert_eq!(rt; tag(&frame[..17]), None);
     assert_eq!(rt; tag(&frame), Some(5));
     assert_eq!(rt; tag(&OVER_V4), None);
+}
+
+/// A frame of type 0x0806 with four bytes of payload.
+const BARE: [u8; 18] = [
+    0x02, 0, 0, 0, 0, 0x0b, 0x02, 0, 0, 0, 0, 0x0a, 0x08, 0x06, 0xd1, 0xd2, 0xd3, 0xd4,
+];
+
+/// The same with a tag of priority 5 and VLAN 0x105.
+const TAGGED: [u8; 22] = [
+    0x02, 0, 0, 0, 0, 0x0b, 0x02, 0, 0, 0, 0, 0x0a, 0x81, 0x00, 0xa1, 0x05, 0x08, 0x06, 0xd1, 0xd2,
+    0xd3, 0xd4,
+];
+
+/// Whether putting the tag 0xA105 into `bare` gives `tagged`, and taking it out of that gives `bare`.
+fn goes_there_and_back(alloc: Global, bare: &[u8], tagged: &[u8]) -> Result<bool, AllocError>
+    requires header { HEADER_LEN ≤ length bare.now }
+    requires few { length bare.now ≤ 18 }
+    requires tagged_header { HEADER_LEN ≤ length tagged.now }
+    requires tagged_few { length tagged.now ≤ 22 }
+{
+    let mut into = Vec::with_capacity(alloc, 22)?;
+    put(bare, 0xa105, &mut into);
+    let mut out_of = Vec::with_capacity(alloc, 22)?;
+    let tci = strip(tagged, &mut out_of);
+    Ok(into.as_slice() == tagged && tci == Some(0xa105) && out_of.as_slice() == bare)
+}
+
+#[test]
+fn tags_go_in_and_come_out(rt: HostRuntime) -> Result<(), AllocError> {
+    for len in 14..19 {
+        let back = goes_there_and_back(rt.alloc(), &BARE[..len], &TAGGED[..len + 4])?;
+        assert!(rt; back, "{len} bytes");
+    }
+    Ok(())
+}
+
+#[test]
+fn a_frame_without_a_tag_comes_out_whole(rt: HostRuntime) -> Result<(), AllocError> {
+    // from 18 bytes on the type 0x8100 is a tag's
+    for (len, want) in [
+        (14, None),
+        (17, None),
+        (18, Some(0xa105)),
+        (22, Some(0xa105)),
+    ] {
+        let mut into = Vec::with_capacity(rt.alloc(), 22)?;
+        let tci = strip(&TAGGED[..len], &mut into);
+        assert_eq!(rt; tci, want, "{len} bytes");
+        let kept = if want.is_some() { len - 4 } else { len };
+        assert_eq!(rt; into.len(), kept, "{len} bytes");
+    }
+    Ok(())
 }
 
 #[test]
