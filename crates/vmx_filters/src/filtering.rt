@@ -6,59 +6,62 @@ ghost use Rattle.std.specs.Option.{ForSome};
 ghost use Rattle.vmx_filters.specs.Admission.{has_mode as has_mode_of, is_foreign as is_foreign_of, is_allowed as is_allowed_of, is_listed as is_listed_of, pass_or, class_verdict as class_verdict_of, verdict_of};
 
 use crate::answer::{Rule, Verdict};
-use vmx_frame::{Class, class, tag};
-use vmx_shared_area::{Filter, MacTable};
+use vmx_frame::{ADDRESS_LEN, Class, HEADER_LEN, VLAN_COUNT, class, tag};
+use vmx_shared_area::offsets::VLAN_WORDS;
+use vmx_shared_area::{
+    Filter, MacTable, RX_MODE_ALL_MULTI, RX_MODE_BCAST, RX_MODE_MCAST, RX_MODE_PROMISC,
+    RX_MODE_UCAST,
+};
 
-/// The receive modes, by their bits in `Filter::mode`: UCAST 1, MCAST 2, BCAST 4, ALL_MULTI 8, PROMISC 16.
-const UCAST: u32 = 0;
-
-const MCAST: u32 = 1;
-
-const BCAST: u32 = 2;
-
-const ALL_MULTI: u32 = 3;
-
-const PROMISC: u32 = 4;
+/// Bits of a word of the VLAN table: VLAN v is bit v % 32 of word v / 32 (Linux vmxnet3_defs.h, VMXNET3_SET_VFTABLE_ENTRY).
+const VLANS_PER_WORD: u16 = 32;
 
 /// Whether a device with the address `mac` lets a frame in under this filter.
 ///
-/// With PROMISC it does. Else a tag whose VLAN is not 0 and not in the VLAN table gives the rule `Vlan`. Else a unicast
+/// With PROMISC it does (the modes are `RX_MODE_UCAST` and its fellows). Else a tag whose VLAN is not 0 and not in the VLAN table gives the rule `Vlan`. Else a unicast
 /// frame needs UCAST and the destination `mac`, a broadcast frame needs BCAST, and a multicast frame needs ALL_MULTI, or
 /// MCAST and its destination in the multicast table; what is missing gives the rule of that class.
 ///
 /// Condition: the frame has at least 14 bytes.
 #[tactic(auto, unfolding(crate::specs::Admission::verdict_of))]
-pub fn admits(filter: &Filter, mac: &[u8; 6], frame: &[u8]) -> Verdict
-    requires header { 14 ≤ length frame.now }
+pub fn admits(filter: &Filter, mac: &[u8; ADDRESS_LEN], frame: &[u8]) -> Verdict
+    requires header { HEADER_LEN ≤ length frame.now }
     ensures verdict { result ≡ verdict_of filter.now mac.now frame.now }
 {
-    if has_mode(filter.mode, PROMISC) {
+    if has_mode(filter.mode, RX_MODE_PROMISC) {
         return Verdict::Yes;
     }
     if is_foreign(&filter.vlans, tag(frame)) {
         return Verdict::No { rule: Rule::Vlan };
     }
-    class_verdict(class(frame), filter, mac, &frame[..6])
+    class_verdict(class(frame), filter, mac, &frame[..ADDRESS_LEN])
 }
 
 /// The verdict on a frame of this class, by its destination.
-fn class_verdict(class: Class, filter: &Filter, mac: &[u8; 6], destination: &[u8]) -> Verdict
+fn class_verdict(
+    class: Class,
+    filter: &Filter,
+    mac: &[u8; ADDRESS_LEN],
+    destination: &[u8],
+) -> Verdict
     ensures verdict { result ≡ class_verdict_of class filter.now mac.now destination.now }
 {
     match class {
         Class::Unicast => pass(
-            has_mode(filter.mode, UCAST) && destination == mac.as_slice(),
+            has_mode(filter.mode, RX_MODE_UCAST) && destination == mac.as_slice(),
             Rule::Unicast,
         ),
-        Class::Broadcast => pass(has_mode(filter.mode, BCAST), Rule::Broadcast),
+        Class::Broadcast => pass(has_mode(filter.mode, RX_MODE_BCAST), Rule::Broadcast),
         Class::Multicast => pass(
-            has_mode(filter.mode, ALL_MULTI)
-                || has_mode(filter.mode, MCAST) && is_listed(&filter.multicast, destination),
+            has_mode(filter.mode, RX_MODE_ALL_MULTI)
+                || has_mode(filter.mode, RX_MODE_MCAST)
+                    && is_listed(&filter.multicast, destination),
             Rule::Multicast,
         ),
     }
 }
 
+/// Lets a frame in, or names the rule that refuses it.
 fn pass(passes: bool, rule: Rule) -> Verdict
     ensures verdict { result ≡ pass_or passes rule }
 {
@@ -69,16 +72,17 @@ fn pass(passes: bool, rule: Rule) -> Verdict
     }
 }
 
-fn has_mode(mode: u32, bit: u32) -> bool
-    requires mode_bit { bit < 32 }
-    ensures mode { result ≡ has_mode_of mode bit }
+/// Whether the bit of a receive mode is set.
+fn has_mode(mode: u32, mask: u32) -> bool
+    requires mask { 1 ≤ mask }
+    ensures mode { result ≡ has_mode_of mode mask }
 {
-    mode >> bit & 1 == 1
+    mode / mask % 2 == 1
 }
 
 /// Whether a tag names a VLAN that is not let in.
-fn is_foreign(vlans: &[u32; 128], vlan: Option<u16>) -> bool
-    requires range { ForSome vlan (λ v. v < 4096) }
+fn is_foreign(vlans: &[u32; VLAN_WORDS], vlan: Option<u16>) -> bool
+    requires range { ForSome vlan (λ v. v < VLAN_COUNT) }
     ensures foreign { result ≡ is_foreign_of vlans.now vlan }
 {
     match vlan {
@@ -88,11 +92,11 @@ fn is_foreign(vlans: &[u32; 128], vlan: Option<u16>) -> bool
 }
 
 /// Whether a VLAN's bit is set in the VLAN table.
-fn is_allowed(vlans: &[u32; 128], vlan: u16) -> bool
-    requires range { vlan < 4096 }
+fn is_allowed(vlans: &[u32; VLAN_WORDS], vlan: u16) -> bool
+    requires range { vlan < VLAN_COUNT }
     ensures allowed { result ≡ is_allowed_of vlans.now vlan }
 {
-    vlans[usize::from(vlan / 32)] >> (vlan % 32) & 1 == 1
+    vlans[usize::from(vlan / VLANS_PER_WORD)] >> (vlan % VLANS_PER_WORD) & 1 == 1
 }
 
 /// Whether an address stands in the multicast table.
@@ -102,7 +106,8 @@ fn is_listed(table: &MacTable, address: &[u8]) -> bool
     is_among(&table.macs[..table.count as usize], address)
 }
 
-fn is_among(macs: &[[u8; 6]], address: &[u8]) -> bool
+/// Whether an address stands in a list.
+fn is_among(macs: &[[u8; ADDRESS_LEN]], address: &[u8]) -> bool
     ensures found { result ≡ list_any (λ mac. bytes_eq mac address.now) macs.now }
 {
     macs.iter().any(|mac| mac.as_slice() == address)

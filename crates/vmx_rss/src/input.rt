@@ -3,12 +3,13 @@
 ghost use Rattle.std.specs.Prelude.{◌≡◌, ◌+◌, ◌++◌, ◌≤◌, length, take};
 ghost use Rattle.vmx_rss.specs.Queues.{input_of, ports_bytes, bytes_of_port, counted_ports as counted_ports_of};
 
+use crate::hash::MAX_INPUT_LEN;
 use vmx_frame::{Flow, Ports};
 
 /// Writes the input of a flow at the front, and gives its length in bytes, at most 36.
 pub fn put_input(flow: &Flow, tcp: bool, input: &mut [u8]) -> usize
-    requires room { length input.old ≡ 36 }
-    ensures len { result ≤ 36 }
+    requires room { length input.old ≡ MAX_INPUT_LEN }
+    ensures len { result ≤ MAX_INPUT_LEN }
     ensures bytes { take result input.new ≡ input_of tcp flow.now }
 {
     match flow {
@@ -33,6 +34,7 @@ fn counted_ports(tcp: bool, ports: Option<Ports>) -> Option<Ports>
     if tcp { ports } else { None }
 }
 
+/// Writes addresses, and ports where there are some, at the front, and gives their length together.
 fn put_flow(input: &mut [u8], source: &[u8], target: &[u8], ports: Option<Ports>) -> usize
     requires room { length source.now + length target.now + 4 ≤ length input.old }
     ensures len { result ≤ length source.now + length target.now + 4 }
@@ -71,6 +73,7 @@ fn put_three(input: &mut [u8], first: &[u8], second: &[u8], third: &[u8]) -> usi
     first.len() + second.len() + third.len()
 }
 
+/// Writes a part at a place.
 fn put(bytes: &mut [u8], at: usize, part: &[u8])
     requires room { at + length part.now ≤ length bytes.old }
     ensures bytes { take (at + length part.now) bytes.new ≡ take at bytes.old ++ part.now }

@@ -10,9 +10,9 @@ mod hash;
 mod input;
 mod queues;
 
-pub use answer::Choice;
-pub use hash::toeplitz;
-pub use queues::{choose, tx_queue};
+pub use answer::{Choice, KIND_IPV4, KIND_IPV6, KIND_TCP_IPV4, KIND_TCP_IPV6, NO_KIND};
+pub use hash::{MAX_INPUT_LEN, toeplitz};
+pub use queues::{ALL_TYPES, TYPE_IPV4, TYPE_IPV6, TYPE_TCP_IPV4, TYPE_TCP_IPV6, choose, tx_queue};
 
 #[cfg(test)]
 mod tests;

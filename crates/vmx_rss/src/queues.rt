@@ -4,16 +4,30 @@
 
 ghost use Rattle.std.specs.Prelude.{◌≡◌, ◌<◌, ◌≤◌};
 ghost use Rattle.std.specs.Option.{option_copied};
-ghost use Rattle.vmx_rss.specs.Queues.{allows as allows_of, kind_of as kind_by, flow_hash as flow_hash_of, choice_of, tx_queue_of};
+ghost use Rattle.vmx_rss.specs.Queues.{allows as allows_of, has_ports as has_ports_of, kind_of as kind_by, flow_hash as flow_hash_of, choice_of, tx_queue_of};
 
-use crate::answer::Choice;
-use crate::hash::toeplitz;
+use crate::answer::{Choice, KIND_IPV4, KIND_IPV6, KIND_TCP_IPV4, KIND_TCP_IPV6, NO_KIND};
+use crate::hash::{MAX_INPUT_LEN, toeplitz};
 use crate::input::put_input;
 use vmx_frame::Flow;
+use vmx_layout::MAX_QUEUES;
+use vmx_shared_area::offsets::KEY_SIZE;
 use vmx_shared_area::{MICROSOFT_KEY, Rss};
 
-/// All four types of flow, as `Rss::types` has them.
-const ALL_TYPES: u16 = 15;
+/// The bit of `Rss::types` that allows IPv4 addresses (Linux vmxnet3_defs.h, VMXNET3_RSS_HASH_TYPE_IPV4).
+pub const TYPE_IPV4: u16 = 1;
+
+/// The bit that allows IPv4 addresses and TCP ports (VMXNET3_RSS_HASH_TYPE_TCP_IPV4).
+pub const TYPE_TCP_IPV4: u16 = 2;
+
+/// The bit that allows IPv6 addresses (VMXNET3_RSS_HASH_TYPE_IPV6).
+pub const TYPE_IPV6: u16 = 4;
+
+/// The bit that allows IPv6 addresses and TCP ports (VMXNET3_RSS_HASH_TYPE_TCP_IPV6).
+pub const TYPE_TCP_IPV6: u16 = 8;
+
+/// All four types of flow.
+pub const ALL_TYPES: u16 = 15;
 
 /// The receive queue of a flow, with its hash and kind.
 ///
@@ -26,13 +40,13 @@ pub fn choose(rss: Option<&Rss>, flow: &Flow) -> Choice
     let none = Choice {
         queue: 0,
         hash: 0,
-        kind: 0,
+        kind: NO_KIND,
     };
     let Some(rss) = rss else {
         return none;
     };
     let kind = kind_of(rss.types, flow);
-    if kind == 0 {
+    if kind == NO_KIND {
         return none;
     }
     let hash = flow_hash(&rss.key, kind, flow);
@@ -46,12 +60,12 @@ pub fn choose(rss: Option<&Rss>, flow: &Flow) -> Choice
 /// Condition: 1 to 8 queues.
 pub fn tx_queue(flow: &Flow, queues: u32) -> u32
     requires some { 1 ≤ queues }
-    requires few { queues ≤ 8 }
+    requires few { queues ≤ MAX_QUEUES }
     ensures queue { result ≡ tx_queue_of flow.now queues }
     ensures below { result < queues }
 {
     let kind = kind_of(ALL_TYPES, flow);
-    if kind == 0 {
+    if kind == NO_KIND {
         return 0;
     }
     flow_hash(&MICROSOFT_KEY, kind, flow) % queues
@@ -62,41 +76,49 @@ fn kind_of(types: u16, flow: &Flow) -> u32
     ensures kind { result ≡ kind_by types flow.now }
 {
     match flow {
-        Flow::NonIp => 0,
+        Flow::NonIp => NO_KIND,
         Flow::V4 { ports, .. } => {
-            if ports.is_some() && allows(types, 1) {
-                2
-            } else if allows(types, 0) {
-                1
+            if ports.is_some() && allows(types, TYPE_TCP_IPV4) {
+                KIND_TCP_IPV4
+            } else if allows(types, TYPE_IPV4) {
+                KIND_IPV4
             } else {
-                0
+                NO_KIND
             }
         }
         Flow::V6 { ports, .. } => {
-            if ports.is_some() && allows(types, 3) {
-                4
-            } else if allows(types, 2) {
-                3
+            if ports.is_some() && allows(types, TYPE_TCP_IPV6) {
+                KIND_TCP_IPV6
+            } else if allows(types, TYPE_IPV6) {
+                KIND_IPV6
             } else {
-                0
+                NO_KIND
             }
         }
     }
 }
 
-fn allows(types: u16, bit: u32) -> bool
-    requires type_bit { bit < 16 }
-    ensures allowed { result ≡ allows_of types bit }
+/// Whether the bit of a type of flow is set.
+fn allows(types: u16, mask: u16) -> bool
+    requires mask { 1 ≤ mask }
+    ensures allowed { result ≡ allows_of types mask }
 {
-    types >> bit & 1 == 1
+    types / mask % 2 == 1
+}
+
+/// Whether the TCP ports are hashed for this kind.
+fn has_ports(kind: u32) -> bool
+    ensures ports { result ≡ has_ports_of kind }
+{
+    kind == KIND_TCP_IPV4 || kind == KIND_TCP_IPV6
 }
 
 /// The hash of a flow of this kind.
 #[tactic(auto, unfolding(crate::specs::Queues::flow_hash))]
-fn flow_hash(key: &[u8; 40], kind: u32, flow: &Flow) -> u32
+fn flow_hash(key: &[u8; KEY_SIZE], kind: u32, flow: &Flow) -> u32
     ensures hash { result ≡ flow_hash_of key.now kind flow.now }
 {
-    let mut input = [0; 36];
-    let len = put_input(flow, kind == 2 || kind == 4, &mut input);
+    let mut input = [0; MAX_INPUT_LEN];
+    let len = put_input(flow, has_ports(kind), &mut input);
     toeplitz(key, &input[..len])
 }

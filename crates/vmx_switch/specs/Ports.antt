@@ -1,6 +1,7 @@
 -- The ports of a switch, and the ports that a frame goes to.
 use Rattle.std.specs.Prelude.{ℕ, ◌%◌, ◌==◌, nat_le, Bool, true, false, not, ◌&&◌, ◌||◌, List, [], ◌∷◌, length, slice_index, slice_index_or, bytes_eq, filter}
 use Rattle.std.specs.List.{list_all, list_any, range_with_len}
+use Rattle.vmx_switch.specs.declared.answer.TheConstants.{MAX_PORTS}
 use Rattle.vmx_frame.specs.Ethernet.{destination, class_of, names_group}
 
 -- what each port owns and is, by its number
@@ -20,7 +21,7 @@ are_distinct (mac ∷ macs) = not (list_any (bytes_eq mac) macs) && are_distinct
 -- what a switch can be made of
 abbrev pub is_wiring : List (List ℕ) → List Bool → Bool
 is_wiring macs sniffers =
-    length macs == length sniffers && nat_le 1 (length macs) && nat_le (length macs) 16
+    length macs == length sniffers && nat_le 1 (length macs) && nat_le (length macs) MAX_PORTS
     && all_unicast macs && are_distinct macs
 
 -- the port has this address

@@ -9,7 +9,7 @@ mod answer;
 mod forwarding;
 mod table;
 
-pub use answer::Targets;
+pub use answer::{MAX_PORTS, Targets};
 pub use forwarding::targets;
 pub use table::Table;
 

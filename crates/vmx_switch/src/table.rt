@@ -4,14 +4,17 @@
 
 ghost use Rattle.std.specs.Prelude.{◌≤◌, take};
 ghost use Rattle.vmx_switch.specs.Ports.{Wiring};
+ghost use Rattle.vmx_switch.specs.declared.answer.TheConstants.{MAX_PORTS};
 
+use crate::answer::MAX_PORTS;
 use std::marker::Model;
+use vmx_frame::ADDRESS_LEN;
 
 /// The ports of a switch, 1 to 16.
 #[derive(Drop)]
 pub struct Table {
-    macs: [[u8; 6]; 16],
-    sniffers: [bool; 16],
+    macs: [[u8; ADDRESS_LEN]; MAX_PORTS],
+    sniffers: [bool; MAX_PORTS],
     count: u32,
 }
 
@@ -20,7 +23,7 @@ impl Model for Table {
 
     ghost view = { λ t. record { macs = take t.count t.macs; sniffers = take t.count t.sniffers } };
 
-    ghost invariant = { λ t. t.count ≤ 16 };
+    ghost invariant = { λ t. t.count ≤ MAX_PORTS };
 }
 
 impl Table {
@@ -31,10 +34,10 @@ impl Table {
     ///
     /// Condition: both lists have the same length, 1 to 16, and the addresses are unicast and all different.
     /// `Table::fits` tests it.
-    pub fn new(macs: &[[u8; 6]], sniffers: &[bool]) -> Self
+    pub fn new(macs: &[[u8; ADDRESS_LEN]], sniffers: &[bool]) -> Self
         requires same_len { length sniffers.now ≡ length macs.now }
         requires some { 1 ≤ length macs.now }
-        requires few { length macs.now ≤ 16 }
+        requires few { length macs.now ≤ MAX_PORTS }
         requires unicast { IsTrue (all_unicast macs.now) }
         requires distinct { IsTrue (are_distinct macs.now) }
         ensures wiring { result ≡ record { macs = macs.now; sniffers = sniffers.now } }
@@ -47,19 +50,19 @@ impl Table {
     }
 
     /// Whether a table can be made of these two lists.
-    pub fn fits(macs: &[[u8; 6]], sniffers: &[bool]) -> bool
+    pub fn fits(macs: &[[u8; ADDRESS_LEN]], sniffers: &[bool]) -> bool
         ensures fits { result ≡ is_wiring macs.now sniffers.now }
     {
         macs.len() == sniffers.len()
             && !macs.is_empty()
-            && macs.len() <= 16
+            && macs.len() <= MAX_PORTS
             && are_unicast(macs)
             && have_no_repeat(macs)
     }
 
     /// The number of ports, at most 16.
     pub fn len(&self) -> u32
-        ensures few { result ≤ 16 }
+        ensures few { result ≤ MAX_PORTS }
         ensures ports { result ≡ length self.now.macs }
     {
         self.count
@@ -87,34 +90,34 @@ ghost use Rattle.std.specs.List.{list_any};
 ghost use Rattle.vmx_switch.specs.Ports.{all_unicast, are_distinct};
 
 #[tactic(auto, using(std::proofs::lemmas::Slice::overwrites))]
-fn padded_macs(macs: &[[u8; 6]]) -> [[u8; 6]; 16]
-    requires few { length macs.now ≤ 16 }
+fn padded_macs(macs: &[[u8; ADDRESS_LEN]]) -> [[u8; ADDRESS_LEN]; MAX_PORTS]
+    requires few { length macs.now ≤ MAX_PORTS }
     ensures macs { take (length macs.now) result ≡ macs.now }
 {
-    let mut padded = [[0; 6]; 16];
+    let mut padded = [[0; ADDRESS_LEN]; MAX_PORTS];
     padded[..macs.len()].copy_from_slice(macs);
     padded
 }
 
 #[tactic(auto, using(std::proofs::lemmas::Slice::overwrites))]
-fn padded_sniffers(sniffers: &[bool]) -> [bool; 16]
-    requires few { length sniffers.now ≤ 16 }
+fn padded_sniffers(sniffers: &[bool]) -> [bool; MAX_PORTS]
+    requires few { length sniffers.now ≤ MAX_PORTS }
     ensures sniffers { take (length sniffers.now) result ≡ sniffers.now }
 {
-    let mut padded = [false; 16];
+    let mut padded = [false; MAX_PORTS];
     padded[..sniffers.len()].copy_from_slice(sniffers);
     padded
 }
 
 /// Whether no address names a group.
-fn are_unicast(macs: &[[u8; 6]]) -> bool
+fn are_unicast(macs: &[[u8; ADDRESS_LEN]]) -> bool
     ensures unicast { result ≡ all_unicast macs.now }
 {
     macs.iter().all(|mac| mac[0] % 2 == 0)
 }
 
 /// Whether no address stands twice.
-fn have_no_repeat(macs: &[[u8; 6]]) -> bool
+fn have_no_repeat(macs: &[[u8; ADDRESS_LEN]]) -> bool
     ensures distinct { result ≡ are_distinct macs.now }
 {
     for (i, mac) in macs.iter().enumerate() {
@@ -126,7 +129,7 @@ fn have_no_repeat(macs: &[[u8; 6]]) -> bool
 }
 
 /// Whether an address stands in a list.
-fn stands_in(address: &[u8; 6], macs: &[[u8; 6]]) -> bool
+fn stands_in(address: &[u8; ADDRESS_LEN], macs: &[[u8; ADDRESS_LEN]]) -> bool
     ensures found { result ≡ list_any (bytes_eq address.now) macs.now }
 {
     macs.iter().any(|mac| address == mac)
