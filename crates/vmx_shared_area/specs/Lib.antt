@@ -2,6 +2,7 @@ pub mod Agree
 pub mod Bounds
 pub mod Bytes
 pub mod Checks
+pub mod Defaults
 pub mod FaultNumber
 pub mod Fields
 pub mod Image

@@ -8,6 +8,7 @@ use Rattle.byteorder.specs.Numbers.{little_number-reads_back, length-bytes_low_f
 use Rattle.vmx_shared_area.specs.Bytes.{le, le_words, zero_bytes, number_at, bytes_at, words_at, spell}
 use Rattle.vmx_shared_area.specs.Layout.{queues, mac_bytes}
 use Rattle.vmx_shared_area.specs.Macs.{mac_of}
+use Rattle.vmx_shared_area.specs.declared.offsets.TheConstants.{MAC_SIZE, DESCRIPTOR_SIZE}
 
 -- from a place on, bytes begin with a part
 abbrev pub Stands : ℕ → List ℕ → List ℕ → Type 0
@@ -86,16 +87,16 @@ words_there at (w ∷ ws) bs h fits =
     let others = words_there (at + 4) ws bs (stands_back at 4 (little_bytes 4 w) (flat_map (little_bytes 4) ws) bs (length-bytes_low_first 0 4 w) h) (λ i. fits (suc i)) in
     λ i. first i ∷ others i
 
-pub stands_mac : (macs : List (List ℕ)) (i at : ℕ) (bs : List ℕ) → ((k : ℕ) → length (mac_of macs k) ≡ 6) → i < length macs → Stands at (mac_bytes macs) bs
-    → Stands (at + 6 * i) (mac_of macs i) bs
+pub stands_mac : (macs : List (List ℕ)) (i at : ℕ) (bs : List ℕ) → ((k : ℕ) → length (mac_of macs k) ≡ MAC_SIZE) → i < length macs → Stands at (mac_bytes macs) bs
+    → Stands (at + MAC_SIZE * i) (mac_of macs i) bs
 unfolding mac_bytes
 stands_mac [] i at bs six lt h = absurd (omega arith)
-stands_mac (m ∷ ms) zero at bs six lt h = moved at (at + 6 * zero) m bs (omega arith) (stands_front at m (flat_map (λ mac. mac) ms) bs h)
+stands_mac (m ∷ ms) zero at bs six lt h = moved at (at + MAC_SIZE * zero) m bs (omega arith) (stands_front at m (flat_map (λ mac. mac) ms) bs h)
 stands_mac (m ∷ ms) (suc i) at bs six lt h =
-    moved (at + 6 + 6 * i) (at + 6 * suc i) (mac_of ms i) bs (omega arith)
-    (stands_mac ms i (at + 6) bs (λ k. six (suc k)) (omega arith) (stands_back at 6 m (flat_map (λ mac. mac) ms) bs (six 0) h))
+    moved (at + MAC_SIZE + MAC_SIZE * i) (at + MAC_SIZE * suc i) (mac_of ms i) bs (omega arith)
+    (stands_mac ms i (at + MAC_SIZE) bs (λ k. six (suc k)) (omega arith) (stands_back at MAC_SIZE m (flat_map (λ mac. mac) ms) bs (six 0) h))
 
-pub length-mac_bytes : (macs : List (List ℕ)) → ((k : ℕ) → length (mac_of macs k) ≡ 6) → length (mac_bytes macs) ≡ 6 * length macs
+pub length-mac_bytes : (macs : List (List ℕ)) → ((k : ℕ) → length (mac_of macs k) ≡ MAC_SIZE) → length (mac_bytes macs) ≡ MAC_SIZE * length macs
 unfolding mac_bytes
 length-mac_bytes [] six = refl
 length-mac_bytes (m ∷ ms) six =
@@ -104,21 +105,21 @@ length-mac_bytes (m ∷ ms) six =
     omega (arith, ih, first, length-append m (flat_map (λ mac. mac) ms))
 
 -- the descriptor of a queue among those of all queues
-pub length-queues : (descriptor : ℕ → List ℕ) → ((q : ℕ) → length (descriptor q) ≡ 256) → (n : ℕ) → length (queues descriptor n) ≡ 256 * n
+pub length-queues : (descriptor : ℕ → List ℕ) → ((q : ℕ) → length (descriptor q) ≡ DESCRIPTOR_SIZE) → (n : ℕ) → length (queues descriptor n) ≡ DESCRIPTOR_SIZE * n
 length-queues descriptor len zero = omega arith
 length-queues descriptor len (suc n) =
     let ih = length-queues descriptor len n in
     omega (arith, ih, len n, length-append (queues descriptor n) (descriptor n))
 
-pub stands_queue : (descriptor : ℕ → List ℕ) → ((q : ℕ) → length (descriptor q) ≡ 256) → (n q at : ℕ) (bs : List ℕ) → q < n → Stands at (queues descriptor n) bs
-    → Stands (at + 256 * q) (descriptor q) bs
+pub stands_queue : (descriptor : ℕ → List ℕ) → ((q : ℕ) → length (descriptor q) ≡ DESCRIPTOR_SIZE) → (n q at : ℕ) (bs : List ℕ) → q < n → Stands at (queues descriptor n) bs
+    → Stands (at + DESCRIPTOR_SIZE * q) (descriptor q) bs
 stands_queue descriptor len zero q at bs lt h = absurd (omega arith)
 stands_queue descriptor len (suc n) q at bs lt h =
     elim (cases_lt q n) [
       | inl below ↦ stands_queue descriptor len n q at bs below (stands_front at (queues descriptor n) (descriptor n) bs h)
       | inr past ↦
           let here : n ≡ q = omega arith in
-          let size : length (queues descriptor n) ≡ 256 * q = omega (arith, length-queues descriptor len n) in
-          let there = stands_back at (256 * q) (queues descriptor n) (descriptor n) bs size h in
+          let size : length (queues descriptor n) ≡ DESCRIPTOR_SIZE * q = omega (arith, length-queues descriptor len n) in
+          let there = stands_back at (DESCRIPTOR_SIZE * q) (queues descriptor n) (descriptor n) bs size h in
           (there.0, there.1 ∙ ap (λ (k : ℕ). descriptor k ++ there.0) here)
     ]

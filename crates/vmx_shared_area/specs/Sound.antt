@@ -1,16 +1,18 @@
 -- What holds of an image whose checks hold.
-use Rattle.std.proofs.Common.{◌≡◌, ◌≢◌, ℕ, zero, suc, ◌+◌, ◌%◌, ◌<◌, ◌≤◌, inl, inr, Bool, true, false, List, length, slice_index, Option, Some, None, nat_lt, refl, ap, ◌∙◌, arith}
-use Rattle.std.specs.Prelude.{nat_le, nat_eq, ◌==◌, ◌&&◌, if◌then◌else◌}
+use Rattle.std.proofs.Common.{◌≡◌, ◌≢◌, ℕ, zero, suc, ◌+◌, ◌%◌, ◌<◌, ◌≤◌, inl, inr, ◌⊎◌, Bool, true, false, List, length, slice_index, Option, Some, None, nat_lt, refl, ap, ◌∙◌, arith}
+use Rattle.std.specs.Prelude.{nat_le, nat_eq, ◌==◌, ◌&&◌, ◌||◌, if◌then◌else◌}
 use Rattle.std.proofs.lemmas.Bool.{cases_lt}
 use Rattle.std.proofs.lemmas.Bool.Decides.{nat_tests}
 use Rattle.vmx_shared_area.specs.Bytes.{number_at, bytes_at}
-use Rattle.vmx_shared_area.specs.Checks.{check, or_else, first_fault, tx_count, rx_count, tx_field, rx_field, magic_fault, queues_fault, ring_size_fault, tx_size_fault, rx_size_fault, queue_fault, each_queue, mtu_fault, mode_fault, multicast_fault, features, config_fault, entry_fault, table_fault, rss_fault, interrupts_fault, address_fault, fault}
-use Rattle.vmx_shared_area.specs.Layout.{queues_address, rss_address}
-use Rattle.vmx_shared_area.specs.declared.checks.QueueCheck.TheVariants.{Sizes, Completions, Addresses}
+use Rattle.vmx_shared_area.specs.Checks.{check, or_else, first_fault, tx_count, rx_count, tx_field, rx_field, features, rss_bit, magic_fault, number_fault, queues_fault, ring_size_fault, data_size_fault, tx_size_fault, rx_size_fault, queue_fault, each_queue, mtu_fault, mode_fault, multicast_fault, config_fault, entry_fault, table_fault, rss_fault, interrupts_fault, auto_mask_fault, address_fault, fault}
+use Rattle.vmx_shared_area.specs.declared.queue_checks.QueueCheck.TheVariants.{Sizes, Completions, Addresses}
 use Rattle.vmx_shared_area.specs.declared.fault.ImageFault.{ImageFault}
 use Rattle.vmx_shared_area.specs.declared.fault.ImageFault.TheVariants.{Rss as RssFault}
 use Rattle.vmx_shared_area.specs.declared.stats.Side.TheVariants.{Tx, Rx}
 use Rattle.vmx_shared_area.specs.Places.{bytes_at-index, bytes_at-past}
+use Rattle.vmx_layout.specs.declared.addresses.TheConstants.{QUEUE_DESCRIPTORS, RSS_CONFIGURATION, DATA_ENTRY_SIZE, MAX_RING_SIZE}
+use Rattle.vmx_layout.specs.declared.register.TheConstants.{MAX_QUEUES}
+use Rattle.vmx_shared_area.specs.declared.offsets.TheConstants.{IMAGE_SIZE, FEATURES_END, QUEUES_ADDRESS, MTU, MIN_MTU, MAX_MTU, AUTO_MASK, RX_MODE, RX_MODE_END, MULTICAST_LENGTH, MAC_SIZE, RSS_LENGTH, RSS_ADDRESS, TX_RING_SIZE, TX_DATA_SIZE, RX_RING1_SIZE, RX_RING2_SIZE, RX_DATA_SIZE, MIN_RING, RING_STEP, RSS_CONFIGURATION_SIZE, HASH_TYPES, MAX_HASH_TYPES, TABLE_LENGTH, TABLE_SIZE, TABLE, MACS_SIZE}
 
 pub or_else_none : (a b : Option ImageFault) → or_else a b ≡ None → (a ≡ None) × (b ≡ None)
 or_else_none None b h = (refl, h)
@@ -65,7 +67,7 @@ passed bs h =
     let b = or_else_none (queues_fault bs) _ a.1 in
     let c = or_else_none (each_queue Sizes bs) _ b.1 in
     let d = or_else_none (each_queue Completions bs) _ c.1 in
-    let e = or_else_none (address_fault (number_at 8 40 bs) queues_address) _ d.1 in
+    let e = or_else_none (address_fault (number_at 8 QUEUES_ADDRESS bs) QUEUE_DESCRIPTORS) _ d.1 in
     let f = or_else_none (each_queue Addresses bs) _ e.1 in
     let g = or_else_none (mtu_fault bs) _ f.1 in
     let i = or_else_none (mode_fault bs) _ g.1 in
@@ -76,12 +78,12 @@ passed bs h =
 
 pub record FewQueues (bs : List ℕ) : Type 0 where
   pub tx_low : 1 ≤ tx_count bs
-  pub tx_high : tx_count bs ≤ 8
+  pub tx_high : tx_count bs ≤ MAX_QUEUES
   pub rx_low : 1 ≤ rx_count bs
-  pub rx_high : rx_count bs ≤ 8
+  pub rx_high : rx_count bs ≤ MAX_QUEUES
 
 pub queues_none : (bs : List ℕ) → queues_fault bs ≡ None → FewQueues bs
-unfolding queues_fault
+unfolding queues_fault number_fault
 queues_none bs h =
     let a = or_else_none _ _ h in
     let b = or_else_none _ _ a.1 in
@@ -90,9 +92,9 @@ queues_none bs h =
     record { tx_low = is_le _ _ tx.0; tx_high = is_le _ _ tx.1; rx_low = is_le _ _ rx.0; rx_high = is_le _ _ rx.1 }
 
 pub record IsRing (size : ℕ) : Type 0 where
-  pub low : 32 ≤ size
-  pub high : size ≤ 4096
-  pub step : size % 32 ≡ 0
+  pub low : MIN_RING ≤ size
+  pub high : size ≤ MAX_RING_SIZE
+  pub step : size % RING_STEP ≡ 0
 
 pub ring_none : (size first : ℕ) → ring_size_fault size first ≡ None → IsRing size
 unfolding ring_size_fault
@@ -102,92 +104,118 @@ ring_none size first h =
     let c = and_true _ _ b.0 in
     record { low = is_le _ _ c.0; high = is_le _ _ c.1; step = is_eq _ _ b.1 }
 
-pub tx_ring_none : (bs : List ℕ) → each_queue Sizes bs ≡ None → 1 ≤ tx_count bs → IsRing (tx_field 4 56 0 bs)
+pub tx_ring_none : (bs : List ℕ) → each_queue Sizes bs ≡ None → 1 ≤ tx_count bs → IsRing (tx_field 4 TX_RING_SIZE 0 bs)
 unfolding each_queue tx_size_fault
 tx_ring_none bs h some =
     let sides = or_else_none (first_fault (queue_fault Sizes Tx bs) 0 (tx_count bs)) _ h in
     let first = no_fault (queue_fault Sizes Tx bs) (tx_count bs) 0 sides.0 (omega arith) in
     ring_none _ _ (or_else_none _ _ first).0
 
-pub rx_rings_none : (bs : List ℕ) → each_queue Sizes bs ≡ None → 1 ≤ rx_count bs → IsRing (rx_field 4 56 0 bs) × IsRing (rx_field 4 60 0 bs)
+pub rx_rings_none : (bs : List ℕ) → each_queue Sizes bs ≡ None → 1 ≤ rx_count bs → IsRing (rx_field 4 RX_RING1_SIZE 0 bs) × IsRing (rx_field 4 RX_RING2_SIZE 0 bs)
 unfolding each_queue rx_size_fault
 rx_rings_none bs h some =
     let sides = or_else_none (first_fault (queue_fault Sizes Tx bs) 0 (tx_count bs)) _ h in
     let first = no_fault (queue_fault Sizes Rx bs) (rx_count bs) 0 sides.1 (omega arith) in
     let rings = or_else_none _ _ first in
-    (ring_none _ _ rings.0, ring_none _ _ rings.1)
+    (ring_none _ _ rings.0, ring_none _ _ (or_else_none _ _ rings.1).0)
 
-pub mtu_none : (bs : List ℕ) → mtu_fault bs ≡ None → (60 ≤ number_at 4 56 bs) × (number_at 4 56 bs ≤ 9000)
+either_true : (a b : Bool) → a || b ≡ true → (a ≡ true) ⊎ (b ≡ true)
+either_true true b h = inl refl
+either_true false b h = inr h
+
+-- the size of a data ring is 0, or the one that it has where there is one
+pub data_size_none : (size whole first : ℕ) → data_size_fault size whole first ≡ None → (size ≡ 0) ⊎ (size ≡ whole)
+unfolding data_size_fault
+data_size_none size whole first h =
+    let lawful = (and_true _ _ (check_none _ _ h)).0 in
+    elim (either_true (nat_eq size 0) (nat_eq size whole) lawful) [ inl none ↦ inl (is_eq _ _ none) | inr some ↦ inr (is_eq _ _ some) ]
+
+pub tx_data_none : (bs : List ℕ) → each_queue Sizes bs ≡ None → 1 ≤ tx_count bs
+    → (tx_field 4 TX_DATA_SIZE 0 bs ≡ 0) ⊎ (tx_field 4 TX_DATA_SIZE 0 bs ≡ tx_field 4 TX_RING_SIZE 0 bs)
+unfolding each_queue tx_size_fault
+tx_data_none bs h some =
+    let sides = or_else_none (first_fault (queue_fault Sizes Tx bs) 0 (tx_count bs)) _ h in
+    let first = no_fault (queue_fault Sizes Tx bs) (tx_count bs) 0 sides.0 (omega arith) in
+    data_size_none _ _ _ (or_else_none _ _ first).1
+
+pub rx_data_none : (bs : List ℕ) → each_queue Sizes bs ≡ None → 1 ≤ rx_count bs → (rx_field 2 RX_DATA_SIZE 0 bs ≡ 0) ⊎ (rx_field 2 RX_DATA_SIZE 0 bs ≡ DATA_ENTRY_SIZE)
+unfolding each_queue rx_size_fault
+rx_data_none bs h some =
+    let sides = or_else_none (first_fault (queue_fault Sizes Tx bs) 0 (tx_count bs)) _ h in
+    let first = no_fault (queue_fault Sizes Rx bs) (rx_count bs) 0 sides.1 (omega arith) in
+    data_size_none _ _ _ (or_else_none _ _ (or_else_none _ _ first).1).1
+
+pub mtu_none : (bs : List ℕ) → mtu_fault bs ≡ None → (MIN_MTU ≤ number_at 4 MTU bs) × (number_at 4 MTU bs ≤ MAX_MTU)
 unfolding mtu_fault
 mtu_none bs h = let a = and_true _ _ (check_none _ _ h) in (is_le _ _ a.0, is_le _ _ a.1)
 
-pub mode_none : (bs : List ℕ) → mode_fault bs ≡ None → number_at 4 120 bs < 32
+pub mode_none : (bs : List ℕ) → mode_fault bs ≡ None → number_at 4 RX_MODE bs < RX_MODE_END
 unfolding mode_fault
 mode_none bs h = is_lt _ _ (check_none _ _ h)
 
-pub multicast_none : (bs : List ℕ) → multicast_fault bs ≡ None → (number_at 2 124 bs % 6 ≡ 0) × (number_at 2 124 bs ≤ 1536)
+pub multicast_none : (bs : List ℕ) → multicast_fault bs ≡ None → (number_at 2 MULTICAST_LENGTH bs % MAC_SIZE ≡ 0) × (number_at 2 MULTICAST_LENGTH bs ≤ MACS_SIZE)
 unfolding multicast_fault
 multicast_none bs h = let a = and_true _ _ (check_none _ _ (or_else_none _ _ h).0) in (is_eq _ _ a.0, is_le _ _ a.1)
 
-pub auto_mask_none : (bs : List ℕ) → interrupts_fault bs ≡ None → number_at 1 80 bs ≤ 1
-unfolding interrupts_fault
+pub auto_mask_none : (bs : List ℕ) → interrupts_fault bs ≡ None → number_at 1 AUTO_MASK bs ≤ 1
+unfolding interrupts_fault auto_mask_fault
 auto_mask_none bs h = is_le _ _ (check_none _ _ (or_else_none _ _ (or_else_none _ _ h).1).0)
 
 -- an indirection table for so many receive queues
 pub record IsTable (rx size : ℕ) (table : List ℕ) : Type 0 where
   pub low : 1 ≤ size
-  pub high : size ≤ 128
+  pub high : size ≤ TABLE_SIZE
   pub below : (i : ℕ) → i < size → slice_index table i < rx
   pub rest : (i : ℕ) → size ≤ i → slice_index table i ≡ 0
 
 entry_none : (bs : List ℕ) (rx i : ℕ) → entry_fault bs rx i ≡ None
-    → (i < number_at 2 5126 bs → slice_index bs (5168 + i) < rx) × (number_at 2 5126 bs ≤ i → slice_index bs (5168 + i) ≡ 0)
+    → (i < number_at 2 TABLE_LENGTH bs → slice_index bs (TABLE + i) < rx) × (number_at 2 TABLE_LENGTH bs ≤ i → slice_index bs (TABLE + i) ≡ 0)
 unfolding entry_fault
 entry_none bs rx i h =
     let test = check_none _ _ h in
     (λ lt. grind (arith, nat_tests, test), λ ge. grind (arith, nat_tests, test))
 
-pub table_none : (bs : List ℕ) (rx : ℕ) → length bs ≡ 8192 → table_fault bs rx ≡ None → IsTable rx (number_at 2 5126 bs) (bytes_at 128 5168 bs)
+pub table_none : (bs : List ℕ) (rx : ℕ) → length bs ≡ IMAGE_SIZE → table_fault bs rx ≡ None → IsTable rx (number_at 2 TABLE_LENGTH bs) (bytes_at TABLE_SIZE TABLE bs)
 unfolding table_fault
 table_none bs rx len h =
     let a = or_else_none _ _ h in
     let size = and_true _ _ (check_none _ _ a.0) in
-    let high : number_at 2 5126 bs ≤ 128 = is_le _ _ size.1 in
+    let high : number_at 2 TABLE_LENGTH bs ≤ TABLE_SIZE = is_le _ _ size.1 in
     record {
       low = is_le _ _ size.0;
       high = high;
-      below = λ i lt. rw (bytes_at-index 128 5168 bs i (omega arith)) ((entry_none bs rx i (no_fault (entry_fault bs rx) 128 i a.1 (omega arith))).0 lt);
+      below = λ i lt. rw (bytes_at-index TABLE_SIZE TABLE bs i (omega arith)) ((entry_none bs rx i (no_fault (entry_fault bs rx) TABLE_SIZE i a.1 (omega arith))).0 lt);
       rest = λ i ge.
-          elim (cases_lt i 128) [
-            | inl lt ↦ bytes_at-index 128 5168 bs i lt ∙ (entry_none bs rx i (no_fault (entry_fault bs rx) 128 i a.1 lt)).1 ge
-            | inr past ↦ bytes_at-past 128 5168 bs i (omega arith) past
+          elim (cases_lt i TABLE_SIZE) [
+            | inl lt ↦ bytes_at-index TABLE_SIZE TABLE bs i lt ∙ (entry_none bs rx i (no_fault (entry_fault bs rx) TABLE_SIZE i a.1 lt)).1 ge
+            | inr past ↦ bytes_at-past TABLE_SIZE TABLE bs i (omega arith) past
           ];
     }
 
-config_none : (bs : List ℕ) → config_fault bs ≡ None → number_at 2 5120 bs ≤ 15
+config_none : (bs : List ℕ) → config_fault bs ≡ None → number_at 2 HASH_TYPES bs ≤ MAX_HASH_TYPES
 unfolding config_fault
 config_none bs h =
-    let a = or_else_none (check (RssFault (number_at 4 652 bs)) (number_at 4 652 bs == 176)) _ h in
-    let b = or_else_none (check (RssFault (number_at 8 656 bs)) (number_at 8 656 bs == rss_address)) _ a.1 in
-    let c = or_else_none (check (RssFault (number_at 2 5120 bs)) (nat_le (number_at 2 5120 bs) 15)) _ b.1 in
-    is_le (number_at 2 5120 bs) 15 (check_none (RssFault (number_at 2 5120 bs)) _ c.0)
+    let a = or_else_none (check (RssFault (number_at 4 RSS_LENGTH bs)) (number_at 4 RSS_LENGTH bs == RSS_CONFIGURATION_SIZE)) _ h in
+    let b = or_else_none (check (RssFault (number_at 8 RSS_ADDRESS bs)) (number_at 8 RSS_ADDRESS bs == RSS_CONFIGURATION)) _ a.1 in
+    let c = or_else_none (check (RssFault (number_at 2 HASH_TYPES bs)) (nat_le (number_at 2 HASH_TYPES bs) MAX_HASH_TYPES)) _ b.1 in
+    is_le (number_at 2 HASH_TYPES bs) MAX_HASH_TYPES (check_none (RssFault (number_at 2 HASH_TYPES bs)) _ c.0)
 
 -- an RSS configuration for so many receive queues
 pub record IsConfig (bs : List ℕ) (rx : ℕ) : Type 0 where
-  pub on : features bs ≡ 2
-  pub types : number_at 2 5120 bs ≤ 15
-  pub table : IsTable rx (number_at 2 5126 bs) (bytes_at 128 5168 bs)
+  pub on : rss_bit bs ≡ 1
+  pub types : number_at 2 HASH_TYPES bs ≤ MAX_HASH_TYPES
+  pub table : IsTable rx (number_at 2 TABLE_LENGTH bs) (bytes_at TABLE_SIZE TABLE bs)
 
-pub rss_none : (bs : List ℕ) (rx : ℕ) → length bs ≡ 8192 → rss_fault bs rx ≡ None → features bs ≢ 0 → IsConfig bs rx
+pub rss_none : (bs : List ℕ) (rx : ℕ) → length bs ≡ IMAGE_SIZE → rss_fault bs rx ≡ None → rss_bit bs ≢ 0 → IsConfig bs rx
 unfolding rss_fault
 rss_none bs rx len h some =
-    let parts = cases (nat_eq (features bs) 0) (nat_eq (features bs) 2) refl refl h in
-    let both = or_else_none (config_fault bs) (table_fault bs rx) parts.1 in
-    record { on = parts.0; types = config_none bs both.0; table = table_none bs rx len both.1 }
+    let parts = cases (nat_lt (features bs) FEATURES_END) (nat_eq (rss_bit bs) 0) refl refl h in
+    let both = or_else_none (config_fault bs) (table_fault bs rx) parts in
+    record { on = omega (arith, some); types = config_none bs both.0; table = table_none bs rx len both.1 }
   where
-    cases : (off on : Bool) → nat_eq (features bs) 0 ≡ off → nat_eq (features bs) 2 ≡ on
-        → (if off then None else if on then or_else (config_fault bs) (table_fault bs rx) else Some (RssFault (features bs))) ≡ None
-        → (features bs ≡ 2) × (or_else (config_fault bs) (table_fault bs rx) ≡ None)
-    cases true on off_is on_is h = absurd (some (is_eq _ _ off_is))
-    cases false true off_is on_is h = (is_eq _ _ on_is, h)
-    cases false false off_is on_is h = absurd (cc h)
+    cases : (low off : Bool) → nat_lt (features bs) FEATURES_END ≡ low → nat_eq (rss_bit bs) 0 ≡ off
+        → (if low then (if off then None else or_else (config_fault bs) (table_fault bs rx)) else Some (RssFault (features bs))) ≡ None
+        → or_else (config_fault bs) (table_fault bs rx) ≡ None
+    cases true true low_is off_is h = absurd (some (is_eq _ _ off_is))
+    cases true false low_is off_is h = h
+    cases false off low_is off_is h = absurd (cc h)

@@ -9,13 +9,14 @@ use Rattle.vmx_shared_area.specs.Bytes.{number_at}
 use Rattle.vmx_shared_area.specs.Layout.{stats_parts, stats_bytes, with_part}
 use Rattle.vmx_shared_area.specs.Parts.{Stands, PartFits, stands_part, length-le, number_there}
 use Rattle.vmx_shared_area.specs.declared.stats.Stats.{Stats}
+use Rattle.vmx_shared_area.specs.declared.offsets.TheConstants.{STATISTICS_COUNT}
 
 pub stands_with_part : (at width : ℕ) (p bs : List ℕ) → at ≤ length bs → Stands at p (with_part at width p bs)
 stands_with_part at width p bs room =
     let front : length (take at bs) ≡ at = grind (arith, length-take) in
     (drop (at + width) bs, drop_at (take at bs) (p ++ drop (at + width) bs) at front)
 
-below_ten : (P : ℕ → Type 0) → P 0 → P 1 → P 2 → P 3 → P 4 → P 5 → P 6 → P 7 → P 8 → P 9 → (i : ℕ) → i < 10 → P i
+below_ten : (P : ℕ → Type 0) → P 0 → P 1 → P 2 → P 3 → P 4 → P 5 → P 6 → P 7 → P 8 → P 9 → (i : ℕ) → i < STATISTICS_COUNT → P i
 below_ten P a b c d e f g h i j zero lt = a
 below_ten P a b c d e f g h i j (suc zero) lt = b
 below_ten P a b c d e f g h i j (suc (suc zero)) lt = c
@@ -33,7 +34,7 @@ stats_fit counts =
     let l = length-le 8 in
     (l _, (l _, (l _, (l _, (l _, (l _, (l _, (l _, (l _, (l _, tt))))))))))
 
-pub stats_there : (at : ℕ) (s : Stats) (bs : List ℕ) → Stands at (stats_bytes s.counts) bs → (i : ℕ) → i < 10 → number_at 8 (at + 8 * i) bs ≡ slice_index s.counts i
+pub stats_there : (at : ℕ) (s : Stats) (bs : List ℕ) → Stands at (stats_bytes s.counts) bs → (i : ℕ) → i < STATISTICS_COUNT → number_at 8 (at + 8 * i) bs ≡ slice_index s.counts i
 stats_there at s bs h =
     let P : ℕ → Type 0 = λ i. number_at 8 (at + 8 * i) bs ≡ slice_index s.counts i in
     let parts = stats_parts s.counts in
@@ -45,11 +46,11 @@ stats_there at s bs h =
     (number_there 8 (at + 48) _ bs (there 6) (s.counts_fit 6)) (number_there 8 (at + 56) _ bs (there 7) (s.counts_fit 7))
     (number_there 8 (at + 64) _ bs (there 8) (s.counts_fit 8)) (number_there 8 (at + 72) _ bs (there 9) (s.counts_fit 9))
 
-pub same_stats : (a b : Stats) → ((i : ℕ) → i < 10 → slice_index a.counts i ≡ slice_index b.counts i) → a ≡ b
+pub same_stats : (a b : Stats) → ((i : ℕ) → i < STATISTICS_COUNT → slice_index a.counts i ≡ slice_index b.counts i) → a ≡ b
 same_stats a b each =
     let counts : a.counts ≡ b.counts = same_number_lists a.counts b.counts (a.counts_length ∙ sym b.counts_length) (λ k lt. each k (omega (arith, a.counts_length))) in
     λ i. record {
       counts = counts i;
-      counts_length = is_prop→PathP (λ j. length (counts j) ≡ 10) (λ j. hlevel props) a.counts_length b.counts_length i;
+      counts_length = is_prop→PathP (λ j. length (counts j) ≡ STATISTICS_COUNT) (λ j. hlevel props) a.counts_length b.counts_length i;
       counts_fit = is_prop→PathP (λ j. (k : ℕ) → slice_index (counts j) k < 2 ^ 64) (λ j. hlevel props) a.counts_fit b.counts_fit i;
     }

@@ -3,7 +3,7 @@ use Rattle.std.proofs.Common.{◌≡◌, ℕ, suc, ◌%◌, ◌^◌, ◌<◌, �
 use Rattle.std.proofs.Props.{props}
 use Rattle.std.proofs.lemmas.Bool.{cases_lt}
 use mathlib.Core.HLevel.{is_prop→PathP}
-use Rattle.vmx_shared_area.specs.Layout.{bit}
+use Rattle.vmx_shared_area.specs.Layout.{bit, if_on}
 use Rattle.vmx_shared_area.specs.Macs.{mac_of, zero_mac}
 use Rattle.vmx_shared_area.specs.Tells.{TellsMulticast, TellsFilter, TellsConfig, TellsRss, TellsTable, Tells, Reads}
 use Rattle.vmx_shared_area.specs.declared.fault.ImageFault.{ImageFault}
@@ -12,6 +12,9 @@ use Rattle.vmx_shared_area.specs.declared.filter.MacTable.{MacTable}
 use Rattle.vmx_shared_area.specs.declared.rss.IndexTable.{IndexTable}
 use Rattle.vmx_shared_area.specs.declared.rss.Rss.{Rss}
 use Rattle.vmx_shared_area.specs.declared.setup.Setup.{Setup}
+use Rattle.vmx_layout.specs.declared.addresses.TheConstants.{DATA_ENTRY_SIZE, MAX_RING_SIZE}
+use Rattle.vmx_layout.specs.declared.register.TheConstants.{MAX_QUEUES}
+use Rattle.vmx_shared_area.specs.declared.offsets.TheConstants.{MIN_MTU, MAX_MTU, LEVEL_COUNT, RX_MODE_END, MAC_SIZE, MAX_MACS, VLAN_WORDS, MIN_RING, RING_STEP, MAX_HASH_TYPES, KEY_SIZE, TABLE_SIZE}
 
 same_macs : (a b : List (List ℕ)) → length a ≡ length b → ((i : ℕ) → mac_of a i ≡ mac_of b i) → a ≡ b
 same_macs [] [] len each = refl
@@ -35,9 +38,9 @@ same_multicast bs a b p q =
     λ i. record {
       count = count i;
       macs = macs i;
-      count_high = is_prop→PathP (λ j. count j ≤ 256) (λ j. hlevel props) a.count_high b.count_high i;
-      macs_length = is_prop→PathP (λ j. length (macs j) ≡ 256) (λ j. hlevel props) a.macs_length b.macs_length i;
-      mac_length = is_prop→PathP (λ j. (k : ℕ) → length (mac_of (macs j) k) ≡ 6) (λ j. hlevel props) a.mac_length b.mac_length i;
+      count_high = is_prop→PathP (λ j. count j ≤ MAX_MACS) (λ j. hlevel props) a.count_high b.count_high i;
+      macs_length = is_prop→PathP (λ j. length (macs j) ≡ MAX_MACS) (λ j. hlevel props) a.macs_length b.macs_length i;
+      mac_length = is_prop→PathP (λ j. (k : ℕ) → length (mac_of (macs j) k) ≡ MAC_SIZE) (λ j. hlevel props) a.mac_length b.mac_length i;
       macs_fit = is_prop→PathP (λ j. (k l : ℕ) → slice_index (mac_of (macs j) k) l < 2 ^ 8) (λ j. hlevel props) a.macs_fit b.macs_fit i;
       rest = is_prop→PathP (λ j. (k : ℕ) → count j ≤ k → mac_of (macs j) k ≡ zero_mac) (λ j. hlevel props) a.rest b.rest i;
     }
@@ -51,8 +54,8 @@ same_filter bs a b p q =
       mode = mode i;
       multicast = multicast i;
       vlans = vlans i;
-      mode_fits = is_prop→PathP (λ j. mode j < 32) (λ j. hlevel props) a.mode_fits b.mode_fits i;
-      vlans_length = is_prop→PathP (λ j. length (vlans j) ≡ 128) (λ j. hlevel props) a.vlans_length b.vlans_length i;
+      mode_fits = is_prop→PathP (λ j. mode j < RX_MODE_END) (λ j. hlevel props) a.mode_fits b.mode_fits i;
+      vlans_length = is_prop→PathP (λ j. length (vlans j) ≡ VLAN_WORDS) (λ j. hlevel props) a.vlans_length b.vlans_length i;
       vlans_fit = is_prop→PathP (λ j. (k : ℕ) → slice_index (vlans j) k < 2 ^ 32) (λ j. hlevel props) a.vlans_fit b.vlans_fit i;
     }
 
@@ -67,12 +70,12 @@ same_config bs a b p q =
       key = key i;
       size = size i;
       table = table i;
-      types_high = is_prop→PathP (λ j. types j ≤ 15) (λ j. hlevel props) a.types_high b.types_high i;
-      key_length = is_prop→PathP (λ j. length (key j) ≡ 40) (λ j. hlevel props) a.key_length b.key_length i;
+      types_high = is_prop→PathP (λ j. types j ≤ MAX_HASH_TYPES) (λ j. hlevel props) a.types_high b.types_high i;
+      key_length = is_prop→PathP (λ j. length (key j) ≡ KEY_SIZE) (λ j. hlevel props) a.key_length b.key_length i;
       key_fits = is_prop→PathP (λ j. (k : ℕ) → slice_index (key j) k < 2 ^ 8) (λ j. hlevel props) a.key_fits b.key_fits i;
       size_low = is_prop→PathP (λ j. 1 ≤ size j) (λ j. hlevel props) a.size_low b.size_low i;
-      size_high = is_prop→PathP (λ j. size j ≤ 128) (λ j. hlevel props) a.size_high b.size_high i;
-      table_length = is_prop→PathP (λ j. length (table j) ≡ 128) (λ j. hlevel props) a.table_length b.table_length i;
+      size_high = is_prop→PathP (λ j. size j ≤ TABLE_SIZE) (λ j. hlevel props) a.size_high b.size_high i;
+      table_length = is_prop→PathP (λ j. length (table j) ≡ TABLE_SIZE) (λ j. hlevel props) a.table_length b.table_length i;
       table_fits = is_prop→PathP (λ j. (k : ℕ) → slice_index (table j) k < 2 ^ 8) (λ j. hlevel props) a.table_fits b.table_fits i;
       rest = is_prop→PathP (λ j. (k : ℕ) → size j ≤ k → slice_index (table j) k ≡ 0) (λ j. hlevel props) a.rest b.rest i;
     }
@@ -91,8 +94,8 @@ same_table bs a b p q =
       size = size i;
       table = table i;
       size_low = is_prop→PathP (λ j. 1 ≤ size j) (λ j. hlevel props) a.size_low b.size_low i;
-      size_high = is_prop→PathP (λ j. size j ≤ 128) (λ j. hlevel props) a.size_high b.size_high i;
-      table_length = is_prop→PathP (λ j. length (table j) ≡ 128) (λ j. hlevel props) a.table_length b.table_length i;
+      size_high = is_prop→PathP (λ j. size j ≤ TABLE_SIZE) (λ j. hlevel props) a.size_high b.size_high i;
+      table_length = is_prop→PathP (λ j. length (table j) ≡ TABLE_SIZE) (λ j. hlevel props) a.table_length b.table_length i;
       table_fits = is_prop→PathP (λ j. (k : ℕ) → slice_index (table j) k < 2 ^ 8) (λ j. hlevel props) a.table_fits b.table_fits i;
       rest = is_prop→PathP (λ j. (k : ℕ) → size j ≤ k → slice_index (table j) k ≡ 0) (λ j. hlevel props) a.rest b.rest i;
     }
@@ -102,6 +105,13 @@ same_bit true true h = refl
 same_bit true false h = absurd (omega arith)
 same_bit false true h = absurd (omega arith)
 same_bit false false h = refl
+
+-- a setting is told by a number that is not 0 exactly where it is on
+same_on : (a b : Bool) (m n : ℕ) → 0 < m → 0 < n → if_on a m ≡ if_on b n → a ≡ b
+same_on true true m n some more h = refl
+same_on true false m n some more h = absurd (omega arith)
+same_on false true m n some more h = absurd (omega arith)
+same_on false false m n some more h = refl
 
 pub same_setup : (bs : List ℕ) (a b : Setup) → Tells bs a → Tells bs b → a ≡ b
 same_setup bs a b p q =
@@ -115,6 +125,11 @@ same_setup bs a b p q =
     let rss : a.rss ≡ b.rss = same_rss bs a.rss b.rss p.rss q.rss in
     let auto_mask : a.auto_mask ≡ b.auto_mask = same_bit a.auto_mask b.auto_mask (p.auto_mask ∙ sym q.auto_mask) in
     let levels : a.levels ≡ b.levels = p.levels ∙ sym q.levels in
+    let tx_data : a.tx_data ≡ b.tx_data =
+    same_on a.tx_data b.tx_data a.tx_ring b.tx_ring (omega (arith, a.tx_ring_low)) (omega (arith, b.tx_ring_low)) (p.tx_data ∙ sym q.tx_data) in
+    let rx_data : a.rx_data ≡ b.rx_data = same_on a.rx_data b.rx_data DATA_ENTRY_SIZE DATA_ENTRY_SIZE (omega arith) (omega arith) (p.rx_data ∙ sym q.rx_data) in
+    let strip : a.strip ≡ b.strip = same_bit a.strip b.strip (p.strip ∙ sym q.strip) in
+    let csum : a.csum ≡ b.csum = same_bit a.csum b.csum (p.csum ∙ sym q.csum) in
     λ i. record {
       tx_queues = tx_queues i;
       rx_queues = rx_queues i;
@@ -126,23 +141,27 @@ same_setup bs a b p q =
       rss = rss i;
       auto_mask = auto_mask i;
       levels = levels i;
+      tx_data = tx_data i;
+      rx_data = rx_data i;
+      strip = strip i;
+      csum = csum i;
       tx_queues_low = is_prop→PathP (λ j. 1 ≤ tx_queues j) (λ j. hlevel props) a.tx_queues_low b.tx_queues_low i;
-      tx_queues_high = is_prop→PathP (λ j. tx_queues j ≤ 8) (λ j. hlevel props) a.tx_queues_high b.tx_queues_high i;
+      tx_queues_high = is_prop→PathP (λ j. tx_queues j ≤ MAX_QUEUES) (λ j. hlevel props) a.tx_queues_high b.tx_queues_high i;
       rx_queues_low = is_prop→PathP (λ j. 1 ≤ rx_queues j) (λ j. hlevel props) a.rx_queues_low b.rx_queues_low i;
-      rx_queues_high = is_prop→PathP (λ j. rx_queues j ≤ 8) (λ j. hlevel props) a.rx_queues_high b.rx_queues_high i;
-      tx_ring_low = is_prop→PathP (λ j. 32 ≤ tx_ring j) (λ j. hlevel props) a.tx_ring_low b.tx_ring_low i;
-      tx_ring_high = is_prop→PathP (λ j. tx_ring j ≤ 4096) (λ j. hlevel props) a.tx_ring_high b.tx_ring_high i;
-      tx_ring_step = is_prop→PathP (λ j. tx_ring j % 32 ≡ 0) (λ j. hlevel props) a.tx_ring_step b.tx_ring_step i;
-      rx_ring1_low = is_prop→PathP (λ j. 32 ≤ rx_ring1 j) (λ j. hlevel props) a.rx_ring1_low b.rx_ring1_low i;
-      rx_ring1_high = is_prop→PathP (λ j. rx_ring1 j ≤ 4096) (λ j. hlevel props) a.rx_ring1_high b.rx_ring1_high i;
-      rx_ring1_step = is_prop→PathP (λ j. rx_ring1 j % 32 ≡ 0) (λ j. hlevel props) a.rx_ring1_step b.rx_ring1_step i;
-      rx_ring2_low = is_prop→PathP (λ j. 32 ≤ rx_ring2 j) (λ j. hlevel props) a.rx_ring2_low b.rx_ring2_low i;
-      rx_ring2_high = is_prop→PathP (λ j. rx_ring2 j ≤ 4096) (λ j. hlevel props) a.rx_ring2_high b.rx_ring2_high i;
-      rx_ring2_step = is_prop→PathP (λ j. rx_ring2 j % 32 ≡ 0) (λ j. hlevel props) a.rx_ring2_step b.rx_ring2_step i;
-      mtu_low = is_prop→PathP (λ j. 60 ≤ mtu j) (λ j. hlevel props) a.mtu_low b.mtu_low i;
-      mtu_high = is_prop→PathP (λ j. mtu j ≤ 9000) (λ j. hlevel props) a.mtu_high b.mtu_high i;
+      rx_queues_high = is_prop→PathP (λ j. rx_queues j ≤ MAX_QUEUES) (λ j. hlevel props) a.rx_queues_high b.rx_queues_high i;
+      tx_ring_low = is_prop→PathP (λ j. MIN_RING ≤ tx_ring j) (λ j. hlevel props) a.tx_ring_low b.tx_ring_low i;
+      tx_ring_high = is_prop→PathP (λ j. tx_ring j ≤ MAX_RING_SIZE) (λ j. hlevel props) a.tx_ring_high b.tx_ring_high i;
+      tx_ring_step = is_prop→PathP (λ j. tx_ring j % RING_STEP ≡ 0) (λ j. hlevel props) a.tx_ring_step b.tx_ring_step i;
+      rx_ring1_low = is_prop→PathP (λ j. MIN_RING ≤ rx_ring1 j) (λ j. hlevel props) a.rx_ring1_low b.rx_ring1_low i;
+      rx_ring1_high = is_prop→PathP (λ j. rx_ring1 j ≤ MAX_RING_SIZE) (λ j. hlevel props) a.rx_ring1_high b.rx_ring1_high i;
+      rx_ring1_step = is_prop→PathP (λ j. rx_ring1 j % RING_STEP ≡ 0) (λ j. hlevel props) a.rx_ring1_step b.rx_ring1_step i;
+      rx_ring2_low = is_prop→PathP (λ j. MIN_RING ≤ rx_ring2 j) (λ j. hlevel props) a.rx_ring2_low b.rx_ring2_low i;
+      rx_ring2_high = is_prop→PathP (λ j. rx_ring2 j ≤ MAX_RING_SIZE) (λ j. hlevel props) a.rx_ring2_high b.rx_ring2_high i;
+      rx_ring2_step = is_prop→PathP (λ j. rx_ring2 j % RING_STEP ≡ 0) (λ j. hlevel props) a.rx_ring2_step b.rx_ring2_step i;
+      mtu_low = is_prop→PathP (λ j. MIN_MTU ≤ mtu j) (λ j. hlevel props) a.mtu_low b.mtu_low i;
+      mtu_high = is_prop→PathP (λ j. mtu j ≤ MAX_MTU) (λ j. hlevel props) a.mtu_high b.mtu_high i;
       entries = is_prop→PathP (λ j. (r : Rss) → rss j ≡ Some r → (k : ℕ) → k < r.size → slice_index r.table k < rx_queues j) (λ j. hlevel props) a.entries b.entries i;
-      levels_length = is_prop→PathP (λ j. length (levels j) ≡ 25) (λ j. hlevel props) a.levels_length b.levels_length i;
+      levels_length = is_prop→PathP (λ j. length (levels j) ≡ LEVEL_COUNT) (λ j. hlevel props) a.levels_length b.levels_length i;
       levels_fit = is_prop→PathP (λ j. (k : ℕ) → slice_index (levels j) k < 2 ^ 8) (λ j. hlevel props) a.levels_fit b.levels_fit i;
     }
 

@@ -2,18 +2,22 @@
 
 ghost use Rattle.std.specs.Prelude.{◌≡◌, ◌<◌, ◌≤◌, ◌^◌, ℕ, length, slice_index};
 ghost use Rattle.vmx_shared_area.specs.Macs.{mac_of, zero_mac};
+ghost use Rattle.vmx_shared_area.specs.declared.offsets.TheConstants.{RX_MODE_END, VLAN_WORDS, MAC_SIZE, MAX_MACS};
+
+use crate::offsets::{MAC_SIZE, MAX_MACS, VLAN_WORDS};
 
 /// The receive filter of a guest.
 #[derive(Clone, Copy, Debug, PartialEq, Eq)]
 pub struct Filter {
-    /// The receive mode, below 32: UCAST 1, MCAST 2, BCAST 4, ALL_MULTI 8, PROMISC 16.
+    /// The receive mode, below 32: a sum of `RX_MODE_UCAST` 1, `RX_MODE_MCAST` 2, `RX_MODE_BCAST` 4, `RX_MODE_ALL_MULTI` 8 and
+    /// `RX_MODE_PROMISC` 16.
     pub mode: u32,
     /// The multicast addresses that MCAST lets in.
     pub multicast: MacTable,
     /// The VLANs that are let in: the one with number `v` is bit `v % 32` of word `v / 32`.
-    pub vlans: [u32; 128],
-    ghost mode_fits: { mode < 32 },
-    ghost vlans_length: { length vlans ≡ 128 },
+    pub vlans: [u32; VLAN_WORDS],
+    ghost mode_fits: { mode < RX_MODE_END },
+    ghost vlans_length: { length vlans ≡ VLAN_WORDS },
     ghost vlans_fit: { (i : ℕ) → slice_index vlans i < 2 ^ 32 },
 }
 
@@ -23,10 +27,10 @@ pub struct MacTable {
     /// The number of addresses, 0 to 256.
     pub count: u32,
     /// The addresses, and zeros after them.
-    pub macs: [[u8; 6]; 256],
-    ghost count_high: { count ≤ 256 },
-    ghost macs_length: { length macs ≡ 256 },
-    ghost mac_length: { (i : ℕ) → length (mac_of macs i) ≡ 6 },
+    pub macs: [[u8; MAC_SIZE]; MAX_MACS],
+    ghost count_high: { count ≤ MAX_MACS },
+    ghost macs_length: { length macs ≡ MAX_MACS },
+    ghost mac_length: { (i : ℕ) → length (mac_of macs i) ≡ MAC_SIZE },
     ghost macs_fit: { (i j : ℕ) → slice_index (mac_of macs i) j < 2 ^ 8 },
     ghost rest: { (i : ℕ) → count ≤ i → mac_of macs i ≡ zero_mac },
 }
@@ -38,7 +42,7 @@ impl MacTable {
     {
         MacTable {
             count: 0,
-            macs: [[0; 6]; 256],
+            macs: [[0; MAC_SIZE]; MAX_MACS],
         }
     }
 }

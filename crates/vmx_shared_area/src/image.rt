@@ -3,6 +3,7 @@
 
 ghost use Rattle.std.specs.Prelude.{◌≡◌, ℕ, List, length, replicate, IfOk};
 
+use crate::offsets::IMAGE_SIZE;
 use std::alloc::{AllocError, Global};
 use std::marker::Model;
 
@@ -14,12 +15,13 @@ pub struct Image {
 
 impl Model for Image {
     ghost use Rattle.std.specs.Prelude.{◌≡◌, ℕ, List, length};
+    ghost use Rattle.vmx_shared_area.specs.declared.offsets.TheConstants.{IMAGE_SIZE};
 
     ghost Value = { List ℕ };
 
     ghost view = { λ i. i.bytes.items };
 
-    ghost invariant = { λ i. length i.bytes.items ≡ 8192 };
+    ghost invariant = { λ i. length i.bytes.items ≡ IMAGE_SIZE };
 }
 
 impl Image {
@@ -29,17 +31,17 @@ impl Image {
 
     /// An image of zeros; `AllocError` only for want of memory.
     pub fn new(alloc: Global) -> Result<Image, AllocError>
-        ensures zeros { IfOk result (λ i. i ≡ replicate 8192 0) }
+        ensures zeros { IfOk result (λ i. i ≡ replicate IMAGE_SIZE 0) }
     {
         Ok(Image {
-            bytes: vec![in alloc; 0; 8192]?,
+            bytes: vec![in alloc; 0; IMAGE_SIZE]?,
         })
     }
 
     /// The bytes, to read.
     pub fn bytes(&self) -> &[u8]
         ensures value { result.now ≡ self.now }
-        ensures len { length result.now ≡ 8192 }
+        ensures len { length result.now ≡ IMAGE_SIZE }
     {
         self.bytes.as_slice()
     }
@@ -48,7 +50,7 @@ impl Image {
     pub fn bytes_mut(&mut self) -> &mut [u8]
         ensures* writes_back { sem 𝓛 (Lends the_row (Array byte 0) self.entry result (with_bytes self.old)) }
         ensures value { result.now ≡ self.old }
-        ensures len { length result.now ≡ 8192 }
+        ensures len { length result.now ≡ IMAGE_SIZE }
     {
         self.bytes.as_mut_slice()
     }

@@ -1,108 +1,90 @@
-//! The check of the RSS configuration: no other feature than RSS, and where RSS is on, its configuration and its indirection table.
+//! The check of the features: no other than RXCSUM, RSS and RXVLAN, and where RSS is on, its configuration and its indirection table.
 
 ghost use Rattle.std.specs.Prelude.{◌≡◌, ◌<◌, length};
-ghost use Rattle.vmx_shared_area.specs.Checks.{rss_fault as rss_fault_of, config_fault as config_fault_of, table_fault as table_fault_of, entry_fault as entry_fault_of, first_fault};
+ghost use Rattle.vmx_shared_area.specs.Checks.{fault_in, rss_fault, rss_check, config_fault, table_fault, entry_fault, first_fault};
 
 use crate::ImageFault;
+use crate::fault::ensure;
 use crate::numbers::{u16_at, u32_at, u64_at};
+use crate::offsets::{
+    FEATURE_RSS, FEATURES, FEATURES_END, HASH_FUNCTION, HASH_TYPES, IMAGE_SIZE, KEY_LENGTH,
+    KEY_SIZE, MAX_HASH_TYPES, RSS_ADDRESS, RSS_CONFIGURATION_SIZE, RSS_LENGTH, TABLE, TABLE_LENGTH,
+    TABLE_SIZE, TOEPLITZ,
+};
+use vmx_layout::RSS_CONFIGURATION;
 
 /// The check of the features, for so many receive queues.
 #[tactic(auto, unfolding(crate::specs::Checks::rss_fault))]
-pub fn rss_fault(bytes: &[u8], rx_queues: u8) -> Option<ImageFault>
-    requires size { length bytes.now ≡ 8192 }
-    ensures fault { result ≡ rss_fault_of bytes.now rx_queues }
+pub fn check_rss(bytes: &[u8], rx_queues: u8) -> Result<(), ImageFault>
+    requires size { length bytes.now ≡ IMAGE_SIZE }
+    ensures first_fault { fault_in result ≡ rss_fault bytes.now rx_queues }
 {
-    match u64_at(bytes, 24) {
-        0 => None,
-        2 => match config_fault(bytes) {
-            Some(found) => Some(found),
-            None => table_fault(bytes, rx_queues),
-        },
-        features => Some(ImageFault::Rss { found: features }),
+    let found = u64_at(bytes, FEATURES);
+    ensure(found < FEATURES_END, ImageFault::Rss { found })?;
+    if found / FEATURE_RSS % 2 == 0 {
+        return Ok(());
     }
+    check_configuration(bytes)?;
+    check_table(bytes, rx_queues)
 }
 
 #[tactic(auto, unfolding(crate::specs::Checks::config_fault))]
-fn config_fault(bytes: &[u8]) -> Option<ImageFault>
-    requires size { length bytes.now ≡ 8192 }
-    ensures fault { result ≡ config_fault_of bytes.now }
+fn check_configuration(bytes: &[u8]) -> Result<(), ImageFault>
+    requires size { length bytes.now ≡ IMAGE_SIZE }
+    ensures first_fault { fault_in result ≡ config_fault bytes.now }
 {
-    let length = u32_at(bytes, 652);
-    if length != 176 {
-        return Some(ImageFault::Rss {
-            found: u64::from(length),
-        });
-    }
-    let address = u64_at(bytes, 656);
-    if address != 0x11400 {
-        return Some(ImageFault::Rss { found: address });
-    }
-    let types = u16_at(bytes, 5120);
-    if types > 15 {
-        return Some(ImageFault::Rss {
-            found: u64::from(types),
-        });
-    }
-    let function = u16_at(bytes, 5122);
-    if function != 1 {
-        return Some(ImageFault::Rss {
-            found: u64::from(function),
-        });
-    }
-    let key = u16_at(bytes, 5124);
-    if key != 40 {
-        return Some(ImageFault::Rss {
-            found: u64::from(key),
-        });
-    }
-    None
+    let length = u64::from(u32_at(bytes, RSS_LENGTH));
+    let address = u64_at(bytes, RSS_ADDRESS);
+    let types = u64::from(u16_at(bytes, HASH_TYPES));
+    let function = u64::from(u16_at(bytes, HASH_FUNCTION));
+    let key = u64::from(u16_at(bytes, KEY_LENGTH));
+    check(length == u64::from(RSS_CONFIGURATION_SIZE), length)?;
+    check(address == RSS_CONFIGURATION, address)?;
+    check(types <= u64::from(MAX_HASH_TYPES), types)?;
+    check(function == u64::from(TOEPLITZ), function)?;
+    check(key == KEY_SIZE as u64, key)
+}
+
+/// The fault of this check, unless a test holds of what was found.
+fn check(holds: bool, found: u64) -> Result<(), ImageFault>
+    ensures first_fault { fault_in result ≡ rss_check found holds }
+{
+    ensure(holds, ImageFault::Rss { found })
 }
 
 /// The check of the indirection table alone.
 #[tactic(auto, unfolding(crate::specs::Checks::table_fault))]
-pub fn table_fault(bytes: &[u8], rx_queues: u8) -> Option<ImageFault>
-    requires size { length bytes.now ≡ 8192 }
-    ensures fault { result ≡ table_fault_of bytes.now rx_queues }
+pub fn check_table(bytes: &[u8], rx_queues: u8) -> Result<(), ImageFault>
+    requires size { length bytes.now ≡ IMAGE_SIZE }
+    ensures first_fault { fault_in result ≡ table_fault bytes.now rx_queues }
 {
-    let size = u16_at(bytes, 5126);
-    if size < 1 || size > 128 {
-        return Some(ImageFault::Rss {
-            found: u64::from(size),
-        });
-    }
-    entries_fault(bytes, rx_queues)
+    let size = u64::from(u16_at(bytes, TABLE_LENGTH));
+    check(1 <= size && size <= TABLE_SIZE as u64, size)?;
+    check_entries(bytes, rx_queues)
 }
 
 #[tactic(auto, using(crate::proofs::FirstFault::first_fault_step, crate::proofs::FirstFault::first_fault_done))]
-fn entries_fault(bytes: &[u8], rx_queues: u8) -> Option<ImageFault>
-    requires size { length bytes.now ≡ 8192 }
-    ensures fault { result ≡ first_fault (entry_fault_of bytes.now rx_queues) 0 128 }
+fn check_entries(bytes: &[u8], rx_queues: u8) -> Result<(), ImageFault>
+    requires size { length bytes.now ≡ IMAGE_SIZE }
+    ensures first_fault { fault_in result ≡ first_fault (entry_fault bytes.now rx_queues) 0 TABLE_SIZE }
 {
-    for i in 0..128 {
-        if let Some(found) = entry_fault(bytes, rx_queues, i) {
-            return Some(found);
-        }
+    for i in 0..TABLE_SIZE {
+        check_entry(bytes, rx_queues, i)?;
     }
-    None
+    Ok(())
 }
 
 #[tactic(auto, unfolding(crate::specs::Checks::entry_fault))]
-fn entry_fault(bytes: &[u8], rx_queues: u8, i: u16) -> Option<ImageFault>
-    requires size { length bytes.now ≡ 8192 }
-    requires entry { i < 128 }
-    ensures fault { result ≡ entry_fault_of bytes.now rx_queues i }
+fn check_entry(bytes: &[u8], rx_queues: u8, i: usize) -> Result<(), ImageFault>
+    requires size { length bytes.now ≡ IMAGE_SIZE }
+    requires entry { i < TABLE_SIZE }
+    ensures first_fault { fault_in result ≡ entry_fault bytes.now rx_queues i }
 {
-    let entry = bytes[5168 + usize::from(i)];
-    let is_good = if i < u16_at(bytes, 5126) {
+    let entry = bytes[TABLE + i];
+    let is_good = if i < usize::from(u16_at(bytes, TABLE_LENGTH)) {
         entry < rx_queues
     } else {
         entry == 0
     };
-    if is_good {
-        None
-    } else {
-        Some(ImageFault::Rss {
-            found: u64::from(entry),
-        })
-    }
+    check(is_good, u64::from(entry))
 }

@@ -1,6 +1,9 @@
 //! The statistics of a queue, as they stand in its descriptor.
 
 ghost use Rattle.std.specs.Prelude.{◌≡◌, ◌<◌, ◌^◌, ℕ, length, slice_index};
+ghost use Rattle.vmx_shared_area.specs.declared.offsets.TheConstants.{STATISTICS_COUNT};
+
+use crate::offsets::STATISTICS_COUNT;
 
 /// The side of a queue.
 #[derive(Clone, Copy, Debug, PartialEq, Eq)]
@@ -24,7 +27,7 @@ pub enum Side {
 #[derive(Clone, Copy, Debug, PartialEq, Eq)]
 pub struct Stats {
     /// The counts.
-    pub counts: [u64; 10],
-    ghost counts_length: { length counts ≡ 10 },
+    pub counts: [u64; STATISTICS_COUNT],
+    ghost counts_length: { length counts ≡ STATISTICS_COUNT },
     ghost counts_fit: { (i : ℕ) → slice_index counts i < 2 ^ 64 },
 }

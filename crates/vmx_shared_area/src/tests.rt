@@ -5,27 +5,6 @@ ghost use Rattle.std.specs.Prelude.{◌<◌};
 use super::*;
 use std::test::Fail;
 
-/// One queue each way, and the defaults of a configuration.
-fn plain() -> Setup {
-    let filter = Filter {
-        mode: 7,
-        multicast: MacTable::empty(),
-        vlans: [u32::MAX; 128],
-    };
-    Setup {
-        tx_queues: 1,
-        rx_queues: 1,
-        tx_ring: 512,
-        rx_ring1: 256,
-        rx_ring2: 256,
-        mtu: 1500,
-        filter,
-        rss: None,
-        auto_mask: true,
-        levels: [0; 25],
-    }
-}
-
 /// Two queues each way, one multicast address and an RSS setting with four entries.
 fn busy() -> Setup {
     let multicast = MacTable {
@@ -33,7 +12,7 @@ fn busy() -> Setup {
         macs: [[0; 6]; 256],
     };
     let filter = Filter {
-        mode: 7,
+        mode: RX_MODE_UCAST | RX_MODE_MCAST | RX_MODE_BCAST,
         multicast,
         vlans: [0; 128],
     };
@@ -54,6 +33,31 @@ fn busy() -> Setup {
         rss: Some(rss),
         auto_mask: true,
         levels: [0; 25],
+        tx_data: false,
+        rx_data: false,
+        strip: false,
+        csum: false,
+    }
+}
+
+/// A setup with other data rings, tags taken out or not, checksums or not.
+fn with(setup: Setup, tx_data: bool, rx_data: bool, strip: bool, csum: bool) -> Setup {
+    let levels = setup.levels;
+    Setup {
+        tx_queues: setup.tx_queues,
+        rx_queues: setup.rx_queues,
+        tx_ring: setup.tx_ring,
+        rx_ring1: setup.rx_ring1,
+        rx_ring2: setup.rx_ring2,
+        mtu: setup.mtu,
+        filter: setup.filter,
+        rss: setup.rss,
+        auto_mask: setup.auto_mask,
+        levels,
+        tx_data,
+        rx_data,
+        strip,
+        csum,
     }
 }
 
@@ -70,7 +74,7 @@ fn put_byte(image: &mut Image, at: usize, byte: u8) -> u8
 #[test]
 fn a_setup_is_written_by_the_table(rt: HostRuntime) -> Result<(), Fail> {
     let mut image = Image::new(rt.alloc())?;
-    write(&plain(), &mut image);
+    write(&Setup::by_default(), &mut image);
     let bytes = image.bytes();
     for (at, part) in [
         (0, [0xe1, 0xfe, 0xbe, 0xba]),
@@ -117,6 +121,91 @@ fn a_setup_is_written_by_the_table(rt: HostRuntime) -> Result<(), Fail> {
 }
 
 #[test]
+fn data_rings_and_features_are_written_by_the_table(rt: HostRuntime) -> Result<(), Fail> {
+    let mut image = Image::new(rt.alloc())?;
+    write(&with(busy(), true, true, true, true), &mut image);
+    let bytes = image.bytes();
+    for (at, part) in [
+        (24, [7, 0, 0, 0]),
+        (28, [0, 0, 0, 0]),
+        (1048, [0, 0, 0x02, 0x10]),
+        (1052, [0, 0, 0, 0]),
+        (1084, [0x00, 0x02, 0, 0]),
+        (1096, [0, 0, 0, 0]),
+        (1304, [0, 0, 0x12, 0x10]),
+        (1340, [0x00, 0x02, 0, 0]),
+        (1576, [0, 0, 0, 0]),
+        (1584, [0, 0, 0x04, 0x20]),
+        (1588, [0, 0, 0, 0]),
+        (1608, [2, 0, 0x80, 0]),
+        (1612, [0, 0, 0, 0]),
+        (1840, [0, 0, 0x14, 0x20]),
+        (1864, [3, 0, 0x80, 0]),
+    ] {
+        assert!(rt; at <= 8188);
+        assert_eq!(rt;
+            [bytes[at], bytes[at + 1], bytes[at + 2], bytes[at + 3]],
+            part,
+            "at {at}"
+        );
+    }
+    Ok(())
+}
+
+#[test]
+fn data_rings_and_features_just_miss(rt: HostRuntime) -> Result<(), Fail> {
+    let mut image = Image::new(rt.alloc())?;
+    write(&with(busy(), true, true, true, true), &mut image);
+    for (at, byte, fault) in [
+        (1085, 1, ImageFault::RingSize { found: 256 }),
+        (1085, 0, ImageFault::RingSize { found: 512 }),
+        (1341, 0, ImageFault::RingSize { found: 0 }),
+        (1610, 127, ImageFault::RingSize { found: 127 }),
+        (1610, 0, ImageFault::RingSize { found: 128 }),
+        (1867, 1, ImageFault::RingSize { found: 384 }),
+        (1050, 3, ImageFault::Address { found: 0x1003_0000 }),
+        (1306, 2, ImageFault::Address { found: 0x1002_0000 }),
+        (1586, 0, ImageFault::Address { found: 0x2000_0000 }),
+        (1843, 0x10, ImageFault::Address { found: 0x1014_0000 }),
+        (24, 15, ImageFault::Rss { found: 15 }),
+        (24, 8, ImageFault::Rss { found: 8 }),
+        (
+            31,
+            1,
+            ImageFault::Rss {
+                found: 0x0100_0000_0000_0007,
+            },
+        ),
+    ] {
+        assert!(rt; at < 8192);
+        let kept = put_byte(&mut image, at, byte);
+        assert_eq!(rt; read(&image), Err(fault), "byte {byte} at {at}");
+        put_byte(&mut image, at, kept);
+    }
+    assert_eq!(rt; read(&image), Ok(with(busy(), true, true, true, true)));
+    for (byte, strip, csum) in [(2, false, false), (3, false, true), (6, true, false)] {
+        put_byte(&mut image, 24, byte);
+        let expected = with(busy(), true, true, strip, csum);
+        assert_eq!(rt; read(&image), Ok(expected), "features {byte}");
+    }
+    Ok(())
+}
+
+#[test]
+fn a_data_ring_of_the_rings_size_is_read(rt: HostRuntime) -> Result<(), Fail> {
+    let mut image = Image::new(rt.alloc())?;
+    write(&Setup::by_default(), &mut image);
+    put_byte(&mut image, 1085, 2);
+    assert_eq!(rt; read(&image), Err(ImageFault::Address { found: 0 }));
+    put_byte(&mut image, 1050, 2);
+    put_byte(&mut image, 1051, 0x10);
+    put_byte(&mut image, 24, 4);
+    let expected = with(Setup::by_default(), true, false, true, false);
+    assert_eq!(rt; read(&image), Ok(expected));
+    Ok(())
+}
+
+#[test]
 fn each_check_names_its_first_bad_field(rt: HostRuntime) -> Result<(), Fail> {
     let mut image = Image::new(rt.alloc())?;
     write(&busy(), &mut image);
@@ -135,6 +224,10 @@ fn each_check_names_its_first_bad_field(rt: HostRuntime) -> Result<(), Fail> {
         (1081, 4, ImageFault::RingSize { found: 512 }),
         (1337, 1, ImageFault::RingSize { found: 256 }),
         (1084, 1, ImageFault::RingSize { found: 1 }),
+        (1085, 2, ImageFault::RingSize { found: 0 }),
+        (1341, 2, ImageFault::RingSize { found: 512 }),
+        (1610, 128, ImageFault::RingSize { found: 0 }),
+        (1866, 128, ImageFault::RingSize { found: 128 }),
         (1592, 1, ImageFault::RingSize { found: 257 }),
         (1597, 0x20, ImageFault::RingSize { found: 8192 }),
         (1853, 2, ImageFault::RingSize { found: 512 }),
@@ -155,7 +248,8 @@ fn each_check_names_its_first_bad_field(rt: HostRuntime) -> Result<(), Fail> {
         (124, 5, ImageFault::Filter { found: 5 }),
         (125, 6, ImageFault::Filter { found: 1542 }),
         (129, 0x14, ImageFault::Filter { found: 0x11400 }),
-        (24, 3, ImageFault::Rss { found: 3 }),
+        (1584, 1, ImageFault::Address { found: 1 }),
+        (24, 10, ImageFault::Rss { found: 10 }),
         (25, 1, ImageFault::Rss { found: 258 }),
         (652, 0xb1, ImageFault::Rss { found: 177 }),
         (657, 0x15, ImageFault::Rss { found: 0x11500 }),
@@ -179,8 +273,8 @@ fn each_check_names_its_first_bad_field(rt: HostRuntime) -> Result<(), Fail> {
         put_byte(&mut image, at, kept);
     }
     for at in [
-        4, 8, 32, 48, 60, 64, 108, 126, 648, 664, 696, 720, 1024, 1064, 1104, 1112, 1200, 5296,
-        5382, 8191,
+        4, 8, 32, 48, 60, 64, 108, 126, 648, 664, 696, 720, 1024, 1064, 1072, 1104, 1112, 1200,
+        1576, 1609, 1612, 5296, 5382, 8191,
     ] {
         assert!(rt; at < 8192);
         let kept = put_byte(&mut image, at, 0xa5);
@@ -194,10 +288,10 @@ fn each_check_names_its_first_bad_field(rt: HostRuntime) -> Result<(), Fail> {
 fn checks_come_in_order_with_their_numbers(rt: HostRuntime) -> Result<(), Fail> {
     let mut image = Image::new(rt.alloc())?;
     assert_eq!(rt; read(&image), Err(ImageFault::Magic { found: 0 }));
-    write(&plain(), &mut image);
+    write(&Setup::by_default(), &mut image);
     for (at, byte, number) in [
         (82, 9, 9),
-        (24, 4, 8),
+        (24, 8, 8),
         (121, 4, 7),
         (57, 0x40, 6),
         (1040, 4, 5),
@@ -220,7 +314,7 @@ fn checks_come_in_order_with_their_numbers(rt: HostRuntime) -> Result<(), Fail> 
 #[test]
 fn a_ring_of_thirty_three_has_number_three(rt: HostRuntime) -> Result<(), Fail> {
     let mut image = Image::new(rt.alloc())?;
-    write(&plain(), &mut image);
+    write(&Setup::by_default(), &mut image);
     put_byte(&mut image, 1080, 33);
     put_byte(&mut image, 1081, 0);
     assert_eq!(rt; read(&image), Err(ImageFault::RingSize { found: 33 }));

@@ -1,6 +1,6 @@
 use Rattle.std.proofs.Common.{◌≡◌, ◌-◌}
 use Rattle.vmx_shared_area.specs.Checks.{first_fault, queue_fault}
-use Rattle.vmx_shared_area.proofs.checks.queue_side.Given as goal
+use Rattle.vmx_shared_area.proofs.checks.check_side.Given as goal
 
 abbrev pub invariant-loop-q : goal.invariant-loop-q
 invariant-loop-q l =

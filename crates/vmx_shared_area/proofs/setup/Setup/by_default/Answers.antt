@@ -1,9 +1,10 @@
 use Rattle.std.proofs.Common.{◌^◌, replicate, refl, arith}
 use Rattle.vmx_shared_area.specs.Bounds.{below_bound}
-use Rattle.vmx_shared_area.proofs.tests.plain.Goals as goal
+use Rattle.vmx_shared_area.proofs.setup.Setup.by_default.Goals as goal
+use Rattle.vmx_shared_area.specs.declared.offsets.TheConstants.{LEVEL_COUNT, VLAN_WORDS}
 
 pub invariant_of-filter : goal.invariant_of-filter
-invariant_of-filter c = record { mode_fits = omega arith; vlans_length = refl; vlans_fit = below_bound (2 ^ 32) (replicate 128 4294967295) (omega arith) refl }
+invariant_of-filter c = record { mode_fits = omega arith; vlans_length = refl; vlans_fit = below_bound (2 ^ 32) (replicate VLAN_WORDS 4294967295) (omega arith) refl }
 
 pub invariant_of-result : goal.invariant_of-result
 invariant_of-result c =
@@ -25,5 +26,5 @@ invariant_of-result c =
       mtu_high = omega arith;
       entries = λ r is. absurd (cc is);
       levels_length = refl;
-      levels_fit = below_bound 256 (replicate 25 0) (omega arith) refl;
+      levels_fit = below_bound 256 (replicate LEVEL_COUNT 0) (omega arith) refl;
     }
