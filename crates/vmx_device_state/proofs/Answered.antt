@@ -11,6 +11,7 @@ use Rattle.vmx_device_state.specs.ImageSetup.{image_setup}
 use Rattle.vmx_device_state.specs.DeviceState.{DeviceState, Idle, fault_number, counts_answer, activate_answer, unless}
 use Rattle.vmx_device_state.specs.Agree.{setup_agrees}
 use Rattle.vmx_device_state.specs.Plain.{state_by}
+use Rattle.vmx_device_state.specs.declared.answers.TheConstants.{OTHER_ENDS}
 use Rattle.vmx_device_state.specs.declared.turn.EndCounts.{EndCounts}
 
 pub is_idle : (o : Option Setup) → is_some o ≡ false → state_by o ≡ Idle
@@ -22,16 +23,16 @@ eq_false m n h = grind (arith, nat_tests)
 
 -- the answer by whether the numbers are the image's
 abbrev counted : Bool → ℕ
-counted b = if b then 0 else 11
+counted b = if b then 0 else OTHER_ENDS
 
-second_false : (a b : Bool) → b ≡ false → counted (a && b) ≡ 11
+second_false : (a b : Bool) → b ≡ false → counted (a && b) ≡ OTHER_ENDS
 second_false true b e = ap counted e
 second_false false b e = refl
 
 counts_match : (a b x y : ℕ) → a ≡ x → b ≡ y → counted (a == x && b == y) ≡ 0
 counts_match a b x y e f = rw (eq_true a x e, eq_true b y f) refl
 
-counts_differ : (a b x y : ℕ) → (a ≢ x) ⊎ (b ≢ y) → counted (a == x && b == y) ≡ 11
+counts_differ : (a b x y : ℕ) → (a ≢ x) ⊎ (b ≢ y) → counted (a == x && b == y) ≡ OTHER_ENDS
 counts_differ a b x y (inl h) = rw (eq_false a x h) refl
 counts_differ a b x y (inr h) = second_false (a == x) (b == y) (eq_false b y h)
 
@@ -48,7 +49,7 @@ activates d bs s ends c idle h is tx rx = sym (by_counts d bs s ends c idle h is
 
 -- it has other numbers
 pub refuses : (d : DeviceState) (bs : List ℕ) (s : Setup) (ends : Option EndCounts) (c : EndCounts) → d ≡ Idle → Reads bs (Ok s) → ends ≡ Some c → (c.tx ≢ s.tx_queues) ⊎ (c.rx ≢ s.rx_queues)
-    → 11 ≡ activate_answer d bs ends
+    → OTHER_ENDS ≡ activate_answer d bs ends
 refuses d bs s ends c idle h is other = sym (by_counts d bs s ends c idle h is ∙ counts_differ c.tx c.rx s.tx_queues s.rx_queues other)
 
 pub unless_none : (f : Option ImageFault) (s : SetupView) → f ≡ None → unless f s ≡ Some s

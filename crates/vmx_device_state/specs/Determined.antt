@@ -2,7 +2,7 @@
 use Rattle.std.proofs.Common.{◌≡◌, ℕ, ◌*◌, ◌<◌, List, length, sym, ap, ◌∙◌, arith}
 use Rattle.std.specs.Prelude.{Option, Some, None, option_map}
 use Rattle.std.proofs.lemmas.List.{get_or-take, length-take-le}
-use Rattle.vmx_shared_area.specs.Layout.{image_of}
+use Rattle.vmx_shared_area.specs.Layout.{bit, if_on, image_of}
 use Rattle.vmx_shared_area.specs.Macs.{mac_of, zero_mac}
 use Rattle.vmx_shared_area.specs.ReadsBack.{image_reads}
 use Rattle.vmx_shared_area.specs.Tells.{TellsMulticast, TellsRss, Tells}
@@ -10,6 +10,8 @@ use Rattle.vmx_shared_area.specs.Unique as unique
 use Rattle.vmx_shared_area.specs.declared.filter.MacTable.{MacTable}
 use Rattle.vmx_shared_area.specs.declared.rss.Rss.{Rss}
 use Rattle.vmx_shared_area.specs.declared.setup.Setup.{Setup}
+use Rattle.vmx_layout.specs.declared.addresses.TheConstants.{DATA_ENTRY_SIZE}
+use Rattle.vmx_shared_area.specs.declared.offsets.TheConstants.{MAC_SIZE}
 use Rattle.vmx_device_state.specs.SetupView.{RssView, rss_view, mac_list, setup_view}
 
 count_of_list : (t : MacTable) → length (mac_list t) ≡ t.count
@@ -19,7 +21,7 @@ count_of_list t = length-take-le t.count t.macs (omega (arith, t.count_high, t.m
 macs_told : (bs : List ℕ) (a b : MacTable) → mac_list a ≡ mac_list b → TellsMulticast bs a → TellsMulticast bs b
 macs_told bs a b e h =
     let same : b.count ≡ a.count = sym (count_of_list b) ∙ ap length (sym e) ∙ count_of_list a in record {
-      count = ap (λ (n : ℕ). 6 * n) same ∙ h.count;
+      count = ap (λ (n : ℕ). MAC_SIZE * n) same ∙ h.count;
       macs = λ i less. let less' : i < a.count = omega arith in
           sym (get_or-take b.count b.macs i zero_mac less) ∙ ap (λ l. mac_of l i) (sym e) ∙ get_or-take a.count a.macs i zero_mac less' ∙ h.macs i less';
     }
@@ -50,6 +52,10 @@ told_again bs a b e h = let same = sym e in record {
   rss = rss_told bs a.rss b.rss (ap (λ v. v.rss) e) h.rss;
   auto_mask = ap (λ v. v.auto_mask) same ∙ h.auto_mask;
   levels = ap (λ v. v.levels) same ∙ h.levels;
+  tx_data = ap (λ v. if_on v.tx_data v.tx_ring) same ∙ h.tx_data;
+  rx_data = ap (λ v. if_on v.rx_data DATA_ENTRY_SIZE) same ∙ h.rx_data;
+  strip = ap (λ v. bit v.strip) same ∙ h.strip;
+  csum = ap (λ v. bit v.csum) same ∙ h.csum;
 }
 
 pub same_setup : (a b : Setup) → setup_view a ≡ setup_view b → a ≡ b

@@ -1,9 +1,11 @@
 pub mod SetupView
 pub mod ImageSetup
 pub mod Orders
+pub mod Numbers
 pub mod DeviceState
 pub mod Answers
 pub mod Deals
+pub mod DealLaws
 pub mod Agree
 pub mod Determined
 pub mod Taken

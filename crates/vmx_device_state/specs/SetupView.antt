@@ -1,5 +1,5 @@
 -- A setup as plain data: of each table what counts, and no proofs of ranges.
-use Rattle.std.specs.Prelude.{ℕ, List, Option, option_map, take}
+use Rattle.std.specs.Prelude.{ℕ, Bool, List, Option, option_map, take}
 use Rattle.vmx_shared_area.specs.Layout.{bit}
 use Rattle.vmx_shared_area.specs.declared.filter.MacTable.{MacTable}
 use Rattle.vmx_shared_area.specs.declared.rss.Rss.{Rss}
@@ -12,7 +12,7 @@ pub record RssView : Type 0 where
   pub size : ℕ
   pub table : List ℕ
 
--- a setup: numbers of queues, sizes of rings, MTU, filter, RSS setting, whether interrupts mask themselves, moderation levels
+-- a setup: numbers of queues, sizes of rings, MTU, filter, RSS setting, whether interrupts mask themselves, moderation levels; whether queues have data rings, tags are taken out and checksums checked
 pub record SetupView : Type 0 where
   pub tx_queues : ℕ
   pub rx_queues : ℕ
@@ -26,6 +26,10 @@ pub record SetupView : Type 0 where
   pub rss : Option RssView
   pub auto_mask : ℕ
   pub levels : List ℕ
+  pub tx_data : Bool
+  pub rx_data : Bool
+  pub strip : Bool
+  pub csum : Bool
 
 abbrev pub rss_view : Rss → RssView
 rss_view r = record { types = r.types; key = r.key; size = r.size; table = r.table }
@@ -48,4 +52,8 @@ setup_view s = record {
   rss = option_map rss_view s.rss;
   auto_mask = bit s.auto_mask;
   levels = s.levels;
+  tx_data = s.tx_data;
+  rx_data = s.rx_data;
+  strip = s.strip;
+  csum = s.csum;
 }

@@ -5,15 +5,20 @@
 //! holds queue ends answers as this one does, which holds none.
 #![tactic(auto)]
 
+mod answers;
 mod order;
 mod plain;
 mod turn;
 mod updates;
 
+pub use answers::{
+    ALREADY_ACTIVE, DEVICE_HIGH, DEVICE_LOW, FILTER_CHECK, LINK_UP, MSI_X, OTHER_ENDS, RSS_CHECK,
+    UNKNOWN_COMMAND,
+};
 pub use order::{Order, Part};
 pub use plain::PlainDevice;
 pub use turn::{AnswerView, CommandView, EndCounts, Turn};
-pub use updates::update_of;
+pub use updates::{check_of, update_of};
 
 #[cfg(test)]
 mod tests;

@@ -3,29 +3,10 @@
 //! GET_DEV_EXTRA_INFO, which are own to this project.
 
 ghost use Rattle.std.specs.Prelude.{◌≡◌};
+ghost use Rattle.vmx_layout.specs.Command.{number_of};
 ghost use Rattle.vmx_device_state.specs.Orders.{order_of};
 
-const ACTIVATE_DEV: u32 = 0xcafe_0000;
-
-const QUIESCE_DEV: u32 = 0xcafe_0001;
-
-const RESET_DEV: u32 = 0xcafe_0002;
-
-const UPDATE_RX_MODE: u32 = 0xcafe_0003;
-
-const UPDATE_MAC_FILTERS: u32 = 0xcafe_0004;
-
-const UPDATE_VLAN_FILTERS: u32 = 0xcafe_0005;
-
-const UPDATE_RSSIDT: u32 = 0xcafe_0006;
-
-const UPDATE_IML: u32 = 0xcafe_0007;
-
-const UPDATE_FEATURE: u32 = 0xcafe_0009;
-
-const GET_QUEUE_STATUS: u32 = 0xf00d_0000;
-
-const GET_CONF_INTR: u32 = 0xf00d_0008;
+use vmx_layout::Command;
 
 /// What a command asks of the device's state.
 #[derive(Clone, Copy, Debug, PartialEq, Eq)]
@@ -55,47 +36,48 @@ pub enum Part {
     Table,
     /// UPDATE_IML: the moderation levels.
     Levels,
-    /// UPDATE_FEATURE: the RSS setting, or none.
+    /// UPDATE_FEATURE: the RSS setting, or none; whether tags are taken out; whether checksums are checked.
     Features,
 }
 
 impl Order {
     /// The order of a number.
+    #[tactic(auto, using(crate::specs::Numbers::no_order))]
     pub fn of(number: u32) -> Order
         ensures order { result ≡ order_of number }
     {
-        if number == ACTIVATE_DEV {
-            return Order::Activate;
+        match Command::of(number) {
+            None => Order::Unknown,
+            Some(command) => order_by(command),
         }
-        if number == QUIESCE_DEV {
-            return Order::Stop;
-        }
-        if number == RESET_DEV {
-            return Order::Stop;
-        }
-        if number == UPDATE_RX_MODE {
-            return Order::Update { part: Part::Mode };
-        }
-        if number == UPDATE_MAC_FILTERS {
-            return Order::Update { part: Part::Macs };
-        }
-        if number == UPDATE_VLAN_FILTERS {
-            return Order::Update { part: Part::Vlans };
-        }
-        if number == UPDATE_RSSIDT {
-            return Order::Update { part: Part::Table };
-        }
-        if number == UPDATE_IML {
-            return Order::Update { part: Part::Levels };
-        }
-        if number == UPDATE_FEATURE {
-            return Order::Update {
-                part: Part::Features,
-            };
-        }
-        if number >= GET_QUEUE_STATUS && number <= GET_CONF_INTR {
-            return Order::Get;
-        }
-        Order::Unknown
+    }
+}
+
+/// The order of a command.
+fn order_by(command: Command) -> Order
+    ensures order { result ≡ order_of (number_of command) }
+{
+    match command {
+        Command::ActivateDev => Order::Activate,
+        Command::QuiesceDev => Order::Stop,
+        Command::ResetDev => Order::Stop,
+        Command::UpdateRxMode => Order::Update { part: Part::Mode },
+        Command::UpdateMacFilters => Order::Update { part: Part::Macs },
+        Command::UpdateVlanFilters => Order::Update { part: Part::Vlans },
+        Command::UpdateRssidt => Order::Update { part: Part::Table },
+        Command::UpdateIml => Order::Update { part: Part::Levels },
+        Command::UpdatePmcfg => Order::Unknown,
+        Command::UpdateFeature => Order::Update {
+            part: Part::Features,
+        },
+        Command::GetQueueStatus => Order::Get,
+        Command::GetStats => Order::Get,
+        Command::GetLink => Order::Get,
+        Command::GetPermMacLo => Order::Get,
+        Command::GetPermMacHi => Order::Get,
+        Command::GetDidLo => Order::Get,
+        Command::GetDidHi => Order::Get,
+        Command::GetDevExtraInfo => Order::Get,
+        Command::GetConfIntr => Order::Get,
     }
 }

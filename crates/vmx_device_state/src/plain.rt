@@ -2,13 +2,14 @@
 //! it is told the image and how many ends there are. Own to this project.
 
 ghost use Rattle.std.specs.Prelude.{◌≡◌, ◌==◌, if◌then◌else◌, unwrap_or};
-ghost use Rattle.vmx_device_state.specs.DeviceState.{Idle, activate_answer, stop_answer, update_answer, set_answer, check_of, after_order, after_update, after_answer};
+ghost use Rattle.vmx_device_state.specs.DeviceState.{Idle, activate_answer, stop_answer, update_answer, set_answer, after_order, after_update, after_answer};
 ghost use Rattle.vmx_device_state.specs.Plain.{state_of};
 ghost use Rattle.vmx_device_state.specs.declared.order.Order.TheVariants.{Activate, Stop};
 
+use crate::answers::{ALREADY_ACTIVE, OTHER_ENDS, UNKNOWN_COMMAND};
 use crate::order::{Order, Part};
 use crate::turn::EndCounts;
-use crate::updates::update_of;
+use crate::updates::{check_of, update_of};
 use vmx_shared_area::{Image, Setup, read};
 
 /// A device that was told some commands.
@@ -36,7 +37,7 @@ impl PlainDevice {
             Order::Activate => Some(self.activate(image, ends)),
             Order::Stop => Some(self.stop(ends)),
             Order::Update { part } => Some(self.update(part, image)),
-            Order::Unknown => Some(0xffff_ffff),
+            Order::Unknown => Some(UNKNOWN_COMMAND),
             Order::Get => None,
         }
     }
@@ -46,14 +47,14 @@ impl PlainDevice {
         ensures state { state_of self.new ≡ (if result == 0 then after_order Activate (state_of self.old) image.now else state_of self.old) }
     {
         if self.setup.is_some() {
-            return 10;
+            return ALREADY_ACTIVE;
         }
         let setup = match read(image) {
             Ok(setup) => setup,
             Err(fault) => return fault.number(),
         };
         match ends {
-            None => 11,
+            None => OTHER_ENDS,
             Some(counts) => {
                 if counts.tx == u64::from(setup.tx_queues)
                     && counts.rx == u64::from(setup.rx_queues)
@@ -61,7 +62,7 @@ impl PlainDevice {
                     self.setup = Some(setup);
                     return 0;
                 }
-                11
+                OTHER_ENDS
             }
         }
     }
@@ -74,7 +75,7 @@ impl PlainDevice {
             return 0;
         }
         if ends.is_some() {
-            return 11;
+            return OTHER_ENDS;
         }
         self.setup = None;
         0
@@ -87,26 +88,12 @@ impl PlainDevice {
         match self.setup {
             None => 0,
             Some(setup) => match update_of(part, &setup, image) {
-                None => check_number(part),
+                None => check_of(part),
                 Some(setup) => {
                     self.setup = Some(setup);
                     0
                 }
             },
         }
-    }
-}
-
-/// The number of the check that an update makes.
-fn check_number(part: Part) -> u32
-    ensures number { result ≡ check_of part }
-{
-    match part {
-        Part::Mode => 7,
-        Part::Macs => 7,
-        Part::Vlans => 0,
-        Part::Table => 8,
-        Part::Levels => 0,
-        Part::Features => 8,
     }
 }

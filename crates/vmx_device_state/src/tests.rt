@@ -1,28 +1,16 @@
 //! The table of commands as numbers: a device is told one command after another, and each answer is compared.
 
+ghost use Rattle.std.specs.Prelude.{◌<◌};
+
 use crate::{EndCounts, PlainDevice};
 use std::test::Fail;
-use vmx_shared_area::{Filter, Image, MacTable, Setup, write};
+use vmx_shared_area::{Image, Setup, write};
 
-/// One queue each way, and the defaults of a configuration.
-fn plain() -> Setup {
-    let filter = Filter {
-        mode: 7,
-        multicast: MacTable::empty(),
-        vlans: [u32::MAX; 128],
-    };
-    Setup {
-        tx_queues: 1,
-        rx_queues: 1,
-        tx_ring: 512,
-        rx_ring1: 256,
-        rx_ring2: 256,
-        mtu: 1500,
-        filter,
-        rss: None,
-        auto_mask: true,
-        levels: [0; 25],
-    }
+/// Changes one byte of an image.
+fn put(image: &mut Image, at: usize, byte: u8)
+    requires place { at < 8192 }
+{
+    image.bytes_mut()[at] = byte;
 }
 
 #[test]
@@ -31,7 +19,7 @@ fn each_command_has_its_answer(rt: HostRuntime) -> Result<(), Fail> {
     let mut device = PlainDevice::new();
     // An image of zeros has no magic.
     assert!(rt; device.command(0xcafe_0000, &image, None) == Some(1));
-    write(&plain(), &mut image);
+    write(&Setup::by_default(), &mut image);
     let one = EndCounts { tx: 1, rx: 1 };
     let two = EndCounts { tx: 1, rx: 2 };
     for (number, ends, answer) in [
@@ -57,16 +45,51 @@ fn each_command_has_its_answer(rt: HostRuntime) -> Result<(), Fail> {
         assert!(rt; device.command(number, &image, ends) == answer);
     }
     assert!(rt; device.setup.is_none());
-    write(&plain(), &mut image);
+    write(&Setup::by_default(), &mut image);
     let _ = device.command(0xcafe_0000, &image, Some(one));
     // A receive mode of 32 has an unknown bit; a mode of 31 is taken.
-    image.bytes_mut()[120] = 32;
+    put(&mut image, 120, 32);
     assert!(rt; device.command(0xcafe_0003, &image, None) == Some(7));
-    image.bytes_mut()[120] = 31;
+    put(&mut image, 120, 31);
     assert!(rt; device.command(0xcafe_0003, &image, None) == Some(0));
     let Some(setup) = device.setup else {
         panic!(rt; "idle")
     };
     assert!(rt; setup.filter.mode == 31 && setup.mtu == 1500);
+    Ok(())
+}
+
+#[test]
+fn features_are_taken_anew(rt: HostRuntime) -> Result<(), Fail> {
+    let mut image = Image::new(rt.alloc())?;
+    write(&Setup::by_default(), &mut image);
+    // An RSS configuration for one receive queue: its length, 176, its address, 0x11400, all kinds of flow, the Toeplitz hash, a key of
+    // 40 bytes and a table of one entry.
+    put(&mut image, 652, 176);
+    put(&mut image, 657, 0x14);
+    put(&mut image, 658, 0x01);
+    put(&mut image, 5120, 15);
+    put(&mut image, 5122, 1);
+    put(&mut image, 5124, 40);
+    put(&mut image, 5126, 1);
+    let mut device = PlainDevice::new();
+    let ends = Some(EndCounts { tx: 1, rx: 1 });
+    assert!(rt; device.command(0xcafe_0000, &image, ends) == Some(0));
+    // The features' word, the answer, and whether there is an RSS setting, tags are taken out and checksums are checked.
+    for (word, answer, rss, strip, csum) in [
+        (4u8, 0u32, false, true, false),
+        (5, 0, false, true, true),
+        (6, 0, true, true, false),
+        (8, 8, true, true, false),
+        (3, 0, true, false, true),
+        (0, 0, false, false, false),
+    ] {
+        put(&mut image, 24, word);
+        assert!(rt; device.command(0xcafe_0009, &image, None) == Some(answer));
+        let Some(setup) = device.setup else {
+            panic!(rt; "idle")
+        };
+        assert!(rt; setup.rss.is_some() == rss && setup.strip == strip && setup.csum == csum);
+    }
     Ok(())
 }
