@@ -1,5 +1,6 @@
 -- The walk where it is known what is posted: a function of the two supplies.
 use Rattle.std.specs.Prelude.{ℕ, zero, suc, ◌-◌, List, [], if◌then◌else◌, nat_lt, Option, Some, None}
+use Rattle.vmx_layout.specs.declared.TheConstants.{RX_DESC_GENERATION_BIT}
 use Rattle.vmx_ends.specs.Words.{missed_word}
 use Rattle.vmx_ends.specs.Receive.{is_body}
 use Rattle.vmx_ends.specs.Walk.{Stand, at_head, further}
@@ -12,7 +13,7 @@ head_from m (suc fuel) p = if is_body m p then head_from m fuel (suc p) else p
 
 -- what the load of ring 1's next finds where so many positions are posted
 abbrev pub finding : RxMade → ℕ → Stand → Option ℕ
-finding m posted a = if nat_lt a.next1 posted then None else Some (missed_word 31 m.size1 a.next1)
+finding m posted a = if nat_lt a.next1 posted then None else Some (missed_word RX_DESC_GENERATION_BIT m.size1 a.next1)
 
 -- n further pieces, up to the first that is not posted in ring 2
 abbrev pub goes : RxMade → ℕ → ℕ → ℕ → Stand → Stand

@@ -1,5 +1,5 @@
 -- Where both ends know all that the other did, a delivery and a refusal are the core's own: no choice is left to the loads.
-use Rattle.std.proofs.Common.{◌≡◌, ◌≢◌, ℕ, zero, suc, ◌+◌, ◌-◌, ◌/◌, ◌<◌, ◌≤◌, List, [], ◌∷◌, ◌++◌, length, Bool, true, false, true≢false, cond, sym, refl, ap, ap₂, ◌∙◌, subst, ⊎_elim, arith, length-append, Option, Some, None, All}
+use Rattle.std.proofs.Common.{◌≡◌, ◌≢◌, ℕ, zero, suc, ◌+◌, ◌-◌, ◌<◌, ◌≤◌, List, [], ◌∷◌, ◌++◌, length, Bool, true, false, true≢false, cond, sym, refl, ap, ap₂, ◌∙◌, subst, ⊎_elim, arith, length-append, Option, Some, None, All}
 use Rattle.std.proofs.lemmas.Bool.{lt-ltb, le-ltb}
 use mathlib.Core.Logic.{dite}
 use native.Mathlib.Decide.{dec_lt}
@@ -7,7 +7,7 @@ use Rattle.vmx_ends.specs.declared.made.RxMade.{RxMade}
 use Rattle.vmx_ends.specs.declared.made.Bodies.TheVariants.{Every}
 use Rattle.vmx_ends.specs.declared.meta.RxMeta.{RxMeta}
 use Rattle.vmx_ends.specs.Receive.{RxDeviceView, is_body, posted1, posted2, consumed1, consumed2}
-use Rattle.vmx_ends.specs.Walk.{Stand, at_head, from_one, from_two, by_load, further, walk}
+use Rattle.vmx_ends.specs.Walk.{Stand, at_head, from_one, from_two, by_load, further, walk, further_pieces}
 use Rattle.vmx_ends.specs.Core.{head_from, finding, goes, takes, misses, ended, outcome}
 use Rattle.vmx_ends.specs.ReceiveClauses.{DeliversFrame, Refuses, MissesHead, MissesBody}
 use Rattle.vmx_ends.specs.WalkLaws.{head_is}
@@ -22,9 +22,9 @@ pub record IsTaken (m : RxMade) (c1 c2 p1 p2 n passed : ℕ) (end : Stand) : Typ
 -- a delivery, where the device was told of all that is posted and knows of nothing beyond
 pub exact_delivery : (bodies p1 p2 : ℕ) (old : RxDeviceView) (frame : List ℕ) (meta : RxMeta) (new : RxDeviceView) (d : DeliversFrame old frame meta new) → old.made.bodies ≡ Every bodies → 0 < old.made.size1
     → posted1 old.made old.heard ≡ p1 → new.seen1 ≤ p1 → new.seen2 ≤ p2
-    → IsTaken old.made (consumed1 old) (consumed2 old) p1 p2 ((length frame + 2047) / 4096) d.passed d.end
+    → IsTaken old.made (consumed1 old) (consumed2 old) p1 p2 (further_pieces (length frame)) d.passed d.end
 exact_delivery bodies p1 p2 old frame meta new d every pos told1 few1 few2 =
-    let m : RxMade = old.made in let c1 : ℕ = consumed1 old in let c2 : ℕ = consumed2 old in let n : ℕ = (length frame + 2047) / 4096 in let h : ℕ = head_from m m.size1 c1 in
+    let m : RxMade = old.made in let c1 : ℕ = consumed1 old in let c2 : ℕ = consumed2 old in let n : ℕ = further_pieces (length frame) in let h : ℕ = head_from m m.size1 c1 in
     let s1 = d.seen.0 in let s2 = d.seen.1 in let as_many = d.as_many in
     let far : All (λ (look : ℕ × ℕ). p1 ≤ look.0) d.end.looks = λ k x less. let l = d.looked k x less in let e = told1 in let b = l.1 in omega arith in
     let low1 : d.end.next1 ≤ p1 = omega arith in let low2 : d.end.next2 ≤ p2 = omega arith in
@@ -102,7 +102,7 @@ ends_walk m (f ∷ more) a e = ends_walk m more (further m a f) (ends_further m 
 -- a refusal, where the device was told of all that is posted and knows of nothing beyond
 pub exact_refusal : (bodies p1 p2 bytes ring position word look : ℕ) (old new : RxDeviceView) (r : Refuses old bytes ring position word look new) → old.made.bodies ≡ Every bodies → 0 < old.made.size1
     → posted1 old.made old.heard ≡ p1 → posted2 old.made old.heard ≡ p2 → consumed2 old ≤ p2 → new.seen1 ≤ p1 → new.seen2 ≤ p2
-    → IsMissing old.made (consumed1 old) (consumed2 old) p1 p2 ((bytes + 2047) / 4096) ring position
+    → IsMissing old.made (consumed1 old) (consumed2 old) p1 p2 (further_pieces bytes) ring position
 exact_refusal bodies p1 p2 bytes ring position word look old new r every pos told1 told2 low2 few1 few2 = ⊎_elim
     (λ (c : (ring ≡ 1) × (r.looks ≡ []) × MissesHead old position word new). in_head c.0 c.2)
     (λ (c : (ring ≡ 2) × MissesBody old bytes position word r.looks new). in_body c.0 c.1)
@@ -118,7 +118,7 @@ exact_refusal bodies p1 p2 bytes ring position word look old new r every pos tol
     c2 = consumed2 old
 
     n : ℕ
-    n = (bytes + 2047) / 4096
+    n = further_pieces bytes
 
     h : ℕ
     h = head_from m m.size1 c1

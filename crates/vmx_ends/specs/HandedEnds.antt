@@ -1,8 +1,9 @@
 -- A device's ends as lists of numbers, which determine what the ends did.
-use Rattle.std.specs.Prelude.{ℕ, ◌==◌, ◌&&◌, List, [], ◌∷◌, ◌++◌, length, map, Bool, true}
+use Rattle.std.specs.Prelude.{ℕ, ◌==◌, ◌&&◌, ◌||◌, List, [], ◌∷◌, ◌++◌, length, map, Bool, true, false, Option, Some, None}
 use Rattle.vmx_io.specs.declared.handed.HandedView.{HandedView}
 use Rattle.vmx_ends.specs.Transmit.{TxDeviceView}
 use Rattle.vmx_ends.specs.Receive.{RxDeviceView}
+use Rattle.vmx_ends.specs.declared.meta.TxMark.{TxMark}
 use Rattle.vmx_ends.specs.declared.frames.Taken.{Taken}
 use Rattle.vmx_ends.specs.declared.frames.Delivery.{Delivery}
 
@@ -15,14 +16,22 @@ numbers f (x ∷ xs) = f x ++ numbers f xs
 abbrev pub frame_numbers : List ℕ → List ℕ
 frame_numbers bytes = length bytes ∷ bytes
 
+-- a tag's two bytes, or none; either way it ends by itself
+abbrev pub tci_numbers : Option ℕ → List ℕ
+tci_numbers None = 0 ∷ []
+tci_numbers (Some tci) = 1 ∷ tci ∷ []
+
+abbrev pub mark_numbers : TxMark → List ℕ
+mark_numbers m = m.om ∷ m.hlen ∷ m.msscof ∷ tci_numbers m.tci
+
 abbrev pub taken_numbers : Taken → List ℕ
-taken_numbers t = t.descriptors ∷ frame_numbers t.sent.frame
+taken_numbers t = t.descriptors ∷ (mark_numbers t.sent.mark ++ frame_numbers t.sent.frame)
 
 abbrev pub spot_numbers : ℕ × ℕ → List ℕ
 spot_numbers spot = spot.0 ∷ spot.1 ∷ []
 
 abbrev pub delivery_numbers : Delivery → List ℕ
-delivery_numbers d = d.meta.hash ∷ d.meta.kind ∷ d.passed ∷ length d.chain ∷ (numbers spot_numbers d.chain ++ frame_numbers d.frame)
+delivery_numbers d = d.meta.hash ∷ d.meta.kind ∷ d.passed ∷ length d.chain ∷ (tci_numbers d.meta.tci ++ (numbers spot_numbers d.chain ++ frame_numbers d.frame))
 
 abbrev pub look_numbers : ℕ × ℕ × ℕ → List ℕ
 look_numbers look = look.0 ∷ look.1 ∷ look.2 ∷ []
@@ -38,6 +47,10 @@ rx_numbers v = length v.delivered ∷ (numbers delivery_numbers v.delivered ++ n
 abbrev pub all_of : {X : Type 0} → (X → Bool) → List X → Bool
 all_of f [] = true
 all_of f (x ∷ xs) = f x && all_of f xs
+
+abbrev pub any_of : {X : Type 0} → (X → Bool) → List X → Bool
+any_of f [] = false
+any_of f (x ∷ xs) = f x || any_of f xs
 
 -- no frame is taken and not completed, and each note that was given was answered by one that was heard
 abbrev pub is_whole_tx : TxDeviceView → Bool
@@ -60,6 +73,16 @@ ends_handed tx rx = record {
   lists = map tx_numbers tx ++ map rx_numbers rx;
   tx = length tx;
   rx = length rx;
+  given = any_of (λ v. v.given) tx || any_of (λ v. v.given) rx;
   whole = all_of is_whole_tx tx && all_of is_whole_rx rx;
   fresh = all_of is_fresh_tx tx && all_of is_fresh_rx rx;
 }
+
+-- the device's ends of a guest's queues, each list by the queue's number
+pub record EndsView : Type 0 where
+  pub tx : List TxDeviceView
+  pub rx : List RxDeviceView
+
+-- what a bag tells of them
+abbrev pub handed_of : EndsView → HandedView
+handed_of e = ends_handed e.tx e.rx

@@ -1,6 +1,9 @@
 pub mod LinkView
 pub mod Words
+pub mod Marks
 pub mod Frames
+pub mod TxFaults
+pub mod RxFaults
 pub mod Transmit
 pub mod Receive
 pub mod Walk
@@ -12,12 +15,15 @@ pub mod WalkCounts
 pub mod WalkByNumbers
 pub mod WalkLaws
 pub mod HeadNear
+pub mod Generations
 pub mod ExactWalk
+pub mod WalkFollows
 pub mod TransmitCore
 pub mod ReceiveCore
 pub mod TransmitClauses
 pub mod ReceiveClauses
 pub mod Queues
+pub mod TransmitCounts
 pub mod HandedEnds
 pub mod HandedLaws
 pub mod Exactness

@@ -1,6 +1,8 @@
 -- The core of a receive queue: what may happen to it, and what then stands. It has no ring, no index and no generation.
-use Rattle.std.specs.Prelude.{ℕ, suc, ◌+◌, ◌/◌, List, [], ◌∷◌, ◌++◌, length, take, if◌then◌else◌, nat_lt}
+use Rattle.std.specs.Prelude.{ℕ, suc, List, [], ◌∷◌, ◌++◌, length, take, if◌then◌else◌, nat_lt}
+use Rattle.vmx_layout.specs.declared.TheConstants.{RX_DESC_GENERATION_BIT}
 use Rattle.vmx_ends.specs.Words.{missed_word}
+use Rattle.vmx_ends.specs.Walk.{further_pieces}
 use Rattle.vmx_ends.specs.Receive.{used, took1, took2, posted1, posted2}
 use Rattle.vmx_ends.specs.ReceiveClauses.{ring_size}
 use Rattle.vmx_ends.specs.Core.{Outcome, takes, misses, outcome}
@@ -25,12 +27,12 @@ new_core m = record { made = m; delivered = []; received = 0; refused = [] }
 -- what a delivery of a frame of so many bytes comes to
 abbrev pub comes_to : RxCore → ℕ → Outcome
 comes_to c bytes = let back = take c.received c.delivered in
-    outcome c.made (used took1 c.delivered) (used took2 c.delivered) (posted1 c.made back) (posted2 c.made back) ((bytes + 2047) / 4096)
+    outcome c.made (used took1 c.delivered) (used took2 c.delivered) (posted1 c.made back) (posted2 c.made back) (further_pieces bytes)
 
 -- a frame goes last in the delivered list, or a look refused it
 abbrev pub after_delivery : RxCore → List ℕ → RxMeta → Outcome → RxCore
 after_delivery c frame meta (takes passed end) = record c { delivered = c.delivered ++ record { frame = frame; meta = meta; passed = passed; chain = end.chain } ∷ [] }
-after_delivery c frame meta (misses ring position looks) = record c { refused = c.refused ++ (ring, position, missed_word 31 (ring_size c.made ring) position) ∷ [] }
+after_delivery c frame meta (misses ring position looks) = record c { refused = c.refused ++ (ring, position, missed_word RX_DESC_GENERATION_BIT (ring_size c.made ring) position) ∷ [] }
 
 -- what stands after an event that is tried
 abbrev pub after : RxCore → RxEvent → RxCore

@@ -1,14 +1,19 @@
 -- A transmit queue: its descriptors, and what its two ends, their notes and the facts show.
 -- The descriptors are counted by positions. A frame uses the next positions, one for each piece, and gives them back when it is reaped. The buffer of the position p is the buffer p modulo the size, since frames are reaped in the order in which they were posted.
-use Rattle.std.specs.Prelude.{ℕ, ◌+◌, ◌-◌, ◌/◌, List, [], ◌∷◌, length, take, drop, Bool, Option}
+use Rattle.std.specs.Prelude.{ℕ, ◌+◌, ◌-◌, ◌/◌, List, [], ◌∷◌, length, take, drop, Bool, Option, if◌then◌else◌}
+use Rattle.vmx_layout.specs.declared.addresses.TheConstants.{DATA_ENTRY_SIZE}
 use Rattle.vmx_ends.specs.declared.frames.Sent.{Sent}
 use Rattle.vmx_ends.specs.declared.frames.Taken.{Taken}
 use Rattle.vmx_ends.specs.declared.made.TxMade.{TxMade}
 use Rattle.vmx_ends.specs.declared.answers.EndFault.{EndFault}
 
--- how many descriptors a frame of so many bytes needs: one for each begun piece
+-- how many pieces so many bytes have
+abbrev pub begun : TxMade → ℕ → ℕ
+begun m bytes = (bytes + (m.piece - 1)) / m.piece
+
+-- how many descriptors a frame of so many bytes needs: one for each begun piece, the first 128 bytes being one of their own where there is a data ring
 abbrev pub need : TxMade → ℕ → ℕ
-need m bytes = (bytes + (m.piece - 1)) / m.piece
+need m bytes = if m.with_data then 1 + begun m (bytes - DATA_ENTRY_SIZE) else begun m bytes
 
 -- how many descriptors these frames need
 abbrev pub descriptors : TxMade → List Sent → ℕ

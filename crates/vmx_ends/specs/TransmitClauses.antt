@@ -1,11 +1,15 @@
 -- What each call of a transmit queue's ends answers and does to what contracts see.
-use Rattle.std.specs.Prelude.{ℕ, suc, ◌+◌, ◌≡◌, ◌<◌, ◌≤◌, ◌⊎◌, List, [], ◌∷◌, ◌++◌, length, take, true, false, Some, None}
+use Rattle.std.specs.Prelude.{ℕ, suc, ◌+◌, ◌%◌, ◌≡◌, ◌<◌, ◌≤◌, ◌⊎◌, List, [], ◌∷◌, ◌++◌, length, take, true, false, Some, None}
 use mathlib.Core.List.{IsPrefix}
 use mathlib.Core.Option.{some}
 use lib.ListN.{get_elem?}
+use Rattle.vmx_layout.specs.declared.TheConstants.{TX_DESC_GENERATION_BIT, COMPLETION_GENERATION_BIT}
+use Rattle.vmx_ends.specs.declared.limits.TheConstants.{MAX_DESCRIPTORS}
 use Rattle.vmx_ends.specs.Words.{IsMissed}
-use Rattle.vmx_ends.specs.Frames.{IsFrame, IsComparable, longer, larger, sent_of}
+use Rattle.vmx_ends.specs.TxFaults.{Tells}
+use Rattle.vmx_ends.specs.Frames.{IsMarked, IsComparable, longer, larger, sent_as, sent_of}
 use Rattle.vmx_ends.specs.Transmit.{TxDriverView, TxDeviceView, TxNoteView, TxView, need, descriptors, found_in, posted, used}
+use Rattle.vmx_ends.specs.declared.meta.TxMark.{TxMark}
 use Rattle.vmx_ends.specs.declared.frames.Sent.{Sent}
 use Rattle.vmx_ends.specs.declared.made.TxMade.{TxMade}
 use Rattle.vmx_ends.specs.declared.answers.EndFault.{EndFault}
@@ -17,11 +21,11 @@ use Rattle.vmx_ends.specs.declared.answers.Take.{Take}
 use Rattle.vmx_ends.specs.declared.answers.Take.TheVariants.{Frame, Empty, Bad}
 
 -- a frame goes last in the sent list, where its descriptors fit into the ring
-abbrev pub Posts : TxDriverView → List ℕ → Post → TxDriverView → Type 0
-Posts old frame (Posted_ place) new =
+abbrev pub Posts : TxDriverView → List ℕ → TxMark → Post → TxDriverView → Type 0
+Posts old frame mark (Posted_ place) new =
     (place ≡ length old.sent) × (used old + need old.made (length frame) ≤ old.made.size)
-    × (new ≡ record old { sent = old.sent ++ record { frame = frame } ∷ [] })
-Posts old frame (Full in_use needed) new =
+    × (new ≡ record old { sent = old.sent ++ sent_as frame mark ∷ [] })
+Posts old frame mark (Full in_use needed) new =
     (in_use ≡ used old) × (needed ≡ need old.made (length frame)) × (old.made.size < in_use + needed) × (new ≡ old)
 
 -- the next completed frame's descriptors come back, or a look found no completion at a position that no note told
@@ -30,38 +34,41 @@ Reaps old (Reaped_ place count) new =
     (place ≡ old.reaped) × (frame : Sent) × (get_elem? old.sent place ≡ some frame) × (count ≡ need old.made (length frame.frame))
     × (new ≡ record old { reaped = suc old.reaped })
 Reaps old (NotYet word) new =
-    (new ≡ record old { looks = old.looks ++ (old.reaped, word) ∷ [] }) × IsMissed 63 old.made.size old.reaped word × (old.heard ≤ old.reaped)
+    (new ≡ record old { looks = old.looks ++ (old.reaped, word) ∷ [] }) × IsMissed COMPLETION_GENERATION_BIT old.made.size old.reaped word × (old.heard ≤ old.reaped)
 
 -- the next sent frame is taken
-pub record TakesFrame (old : TxDeviceView) (into : List ℕ) (place : ℕ) (new : TxDeviceView) : Type 0 where
+pub record TakesFrame (old : TxDeviceView) (into : List ℕ) (place : ℕ) (mark : TxMark) (new : TxDeviceView) : Type 0 where
   pub fine : old.bad ≡ None
   pub place_is : place ≡ length old.taken
-  pub frame : IsFrame into
+  pub frame : IsMarked into mark
   pub count : ℕ
-  pub exact : old.made.full ≡ true → count ≡ need old.made (length into)
-  pub few : count ≤ 16
-  pub is : new ≡ record old { taken = old.taken ++ record { sent = record { frame = into }; descriptors = count } ∷ [] }
+  pub exact : old.given ≡ false → count ≡ need old.made (length into)
+  pub few : count ≤ MAX_DESCRIPTORS
+  pub is : new ≡ record old { taken = old.taken ++ record { sent = sent_as into mark; descriptors = count } ∷ [] }
   pub comparable : IsComparable (sent_of new.taken) new.heard
 
--- a look found no descriptor. Where the driver made the words, it is the one behind the last frame taken.
+-- a look found no descriptor. Where a driver stands behind the words, it is the one behind the last frame taken.
 pub record FindsNone (old : TxDeviceView) (word : ℕ) (new : TxDeviceView) : Type 0 where
   pub fine : old.bad ≡ None
   pub position : ℕ
   pub behind : found_in old.taken ≤ position
-  pub exact : old.made.full ≡ true → position ≡ found_in old.taken
-  pub missed : IsMissed 14 old.made.size position word
+  pub exact : old.given ≡ false → position ≡ found_in old.taken
+  pub missed : IsMissed TX_DESC_GENERATION_BIT old.made.size position word
   pub unheard : length old.heard ≤ length old.taken
   pub is : new ≡ record old { looks = old.looks ++ (position, word) ∷ [] }
 
--- the words that were given show a fault: the end answers so from now on
+-- The given words of a descriptor of the next frame show the fault, and no look is made: the end answers so from now on.
 pub record ShowsFault (old : TxDeviceView) (words : List ℕ) (fault : EndFault) (new : TxDeviceView) : Type 0 where
   pub given : old.given ≡ true
   pub same : (old.bad ≡ None) ⊎ (old.bad ≡ Some (words, fault))
-  pub looks : List (ℕ × ℕ)
-  pub is : new ≡ record old { looks = old.looks ++ looks; bad = Some (words, fault) }
+  pub position : ℕ
+  pub behind : found_in old.taken ≤ position
+  pub near : position < found_in old.taken + MAX_DESCRIPTORS
+  pub tells : Tells old.made.name.queue (position % old.made.size) words fault
+  pub is : new ≡ record old { bad = Some (words, fault) }
 
 abbrev pub Takes : TxDeviceView → List ℕ → Take → TxDeviceView → Type 0
-Takes old into (Frame place) new = TakesFrame old into place new
+Takes old into (Frame place mark) new = TakesFrame old into place mark new
 Takes old into (Empty word) new = (into ≡ []) × FindsNone old word new
 Takes old into (Bad words fault) new = (into ≡ []) × ShowsFault old words fault new
 
@@ -70,16 +77,20 @@ Completes old new = new ≡ record old { completed = suc old.completed }
 
 -- how much a call adds at most, whatever it answers
 abbrev pub GrowsPosted : TxDriverView → TxDriverView → Type 0
-GrowsPosted old new = (length new.sent ≤ length old.sent + 1) × (posted new ≤ posted old + 16)
+GrowsPosted old new = (length new.sent ≤ length old.sent + 1) × (posted new ≤ posted old + MAX_DESCRIPTORS)
 
 abbrev pub GrowsReaped : TxDriverView → TxDriverView → Type 0
 GrowsReaped old new = (new.reaped ≤ old.reaped + 1) × (length new.looks ≤ length old.looks + 1)
 
--- over words that a driver made, a frame has at most 16 descriptors; over given words nothing is posted back
+-- a frame has at most 16 descriptors; over given words nothing is posted back
 abbrev pub GrowsTaken : TxDeviceView → TxDeviceView → Type 0
 GrowsTaken old new =
-    (length new.taken ≤ length old.taken + 1) × (old.made.full ≡ true → found_in new.taken ≤ found_in old.taken + 16)
-    × (old.made.full ≡ false → found_in new.taken ≤ old.made.size)
+    (length new.taken ≤ length old.taken + 1) × (found_in new.taken ≤ found_in old.taken + MAX_DESCRIPTORS)
+    × (old.given ≡ true → found_in new.taken ≤ old.made.size)
+
+-- what an end that no driver stands behind is made with, as a note of no table shows it
+abbrev pub no_made : TxMade
+no_made = record { name = record { guest = 0; activation = 0; queue = 0 }; size = 0; piece = 0; with_data = false; full = false }
 
 -- what the notes of the two ends tell
 abbrev pub driver_note : TxDriverView → TxNoteView
@@ -87,6 +98,16 @@ driver_note v = record { key = v.key; made = v.made; of_driver = true; frames = 
 
 abbrev pub device_note : TxDeviceView → TxNoteView
 device_note v = record { key = v.key; made = v.made; of_driver = false; frames = sent_of v.taken; done = v.completed }
+
+-- the note of an end over given words: of no table, so it fits no end, and it tells nothing
+abbrev pub no_note : TxNoteView
+no_note = record { key = []; made = no_made; of_driver = false; frames = []; done = 0 }
+
+-- a note of the device: over given words it tells nothing, and the end stays as it was
+abbrev pub NotesDevice : TxDeviceView → TxNoteView → TxDeviceView → Type 0
+NotesDevice old note new =
+    (old.given ≡ false → (note ≡ device_note old) × (new ≡ record old { notes_given = suc old.notes_given }))
+    × (old.given ≡ true → (note ≡ no_note) × (new ≡ old))
 
 -- The driver hears a note of the device: what that had taken begins what this has sent, and it completed no more.
 pub record DriverHears (old : TxDriverView) (note : TxNoteView) (new : TxDriverView) : Type 0 where
@@ -96,8 +117,9 @@ pub record DriverHears (old : TxDriverView) (note : TxNoteView) (new : TxDriverV
   pub done : note.done ≤ length old.sent
   pub heard : note.done ≤ new.heard
 
--- The device hears a note of the driver: what that had reaped is completed, and its sent list begins this taken list or begins with it.
+-- The device hears a note of the driver, which no end over given words does: what that had reaped is completed, and its sent list begins this taken list or begins with it.
 pub record DeviceHears (old : TxDeviceView) (note : TxNoteView) (new : TxDeviceView) : Type 0 where
+  pub fine : old.given ≡ false
   pub is : new ≡ record old { heard = longer old.heard note.frames; notes_heard = suc old.notes_heard }
   pub made_is : note.made ≡ old.made
   pub done : note.done ≤ old.completed

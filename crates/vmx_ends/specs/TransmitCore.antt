@@ -13,7 +13,7 @@ pub record TxCore : Type 0 where
   pub taken : ℕ
 
 pub data TxEvent : Type 0 where
-  posts : List ℕ → TxEvent
+  posts : Sent → TxEvent
   takes : TxEvent
   completes : TxEvent
   reaps : TxEvent
@@ -27,13 +27,13 @@ in_use c = descriptors c.made (drop c.reaped c.sent)
 
 -- where an event is allowed: a post where the free buffers suffice, a take where no frame is taken and not completed and a further one was sent
 abbrev pub allows : TxCore → TxEvent → Bool
-allows c (posts frame) = not (nat_lt c.made.size (in_use c + need c.made (length frame)))
+allows c (posts s) = not (nat_lt c.made.size (in_use c + need c.made (length s.frame)))
 allows c takes = (c.taken == c.completed) && nat_lt c.taken (length c.sent)
 allows c completes = nat_lt c.completed c.taken
 allows c reaps = nat_lt c.reaped c.completed
 
 abbrev pub happens : TxCore → TxEvent → TxCore
-happens c (posts frame) = record c { sent = c.sent ++ record { frame = frame } ∷ [] }
+happens c (posts s) = record c { sent = c.sent ++ s ∷ [] }
 happens c takes = record c { taken = suc c.taken }
 happens c completes = record c { completed = suc c.completed }
 happens c reaps = record c { reaped = suc c.reaped }

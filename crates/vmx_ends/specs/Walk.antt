@@ -1,11 +1,15 @@
 -- The walk of one delivery over the two supplies: a function of what its loads of ring 1 for further pieces found.
-use Rattle.std.specs.Prelude.{ℕ, suc, ◌+◌, ◌/◌, ◌≡◌, ◌<◌, ◌≤◌, List, [], ◌∷◌, ◌++◌, true, false, if◌then◌else◌, Option, Some, None}
+use Rattle.std.specs.Prelude.{ℕ, suc, ◌+◌, ◌-◌, ◌/◌, ◌≡◌, ◌<◌, ◌≤◌, List, [], ◌∷◌, ◌++◌, true, false, if◌then◌else◌, Option, Some, None}
+use Rattle.vmx_ends.specs.declared.limits.TheConstants.{HEAD_SIZE, BODY_SIZE}
 use Rattle.vmx_ends.specs.Receive.{is_body}
 use Rattle.vmx_ends.specs.declared.made.RxMade.{RxMade}
 
--- pieces of a frame: 2,048 bytes for the head, and 4,096 for each further one, the last the rest
+-- pieces of a frame behind its head: 2,048 bytes lie in the head, and 4,096 in each further one, the last the rest
+abbrev pub further_pieces : ℕ → ℕ
+further_pieces bytes = (bytes + (BODY_SIZE - HEAD_SIZE - 1)) / BODY_SIZE
+
 abbrev pub pieces : ℕ → ℕ
-pieces bytes = (bytes + 2047) / 4096 + 1
+pieces bytes = further_pieces bytes + 1
 
 -- where a walk stands: the next position of each supply, the (ring, position) of each piece so far, and the looks at ring 1
 pub record Stand : Type 0 where

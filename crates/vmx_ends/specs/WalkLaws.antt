@@ -5,6 +5,7 @@ use Rattle.std.proofs.lemmas.Bool.{ltb-true, ltb-false}
 use Rattle.std.proofs.lemmas.List.Elements.{All-nil}
 use mathlib.Core.Logic.{dite}
 use native.Mathlib.Decide.{ℕ_discrete}
+use Rattle.vmx_layout.specs.declared.TheConstants.{RX_DESC_GENERATION_BIT}
 use Rattle.vmx_ends.specs.declared.made.RxMade.{RxMade}
 use Rattle.vmx_ends.specs.declared.made.Bodies.{Bodies}
 use Rattle.vmx_ends.specs.declared.made.Bodies.TheVariants.{Every}
@@ -52,7 +53,7 @@ head_is m bodies p every pos = (
 )
 
 abbrev pub IsLookAt : RxMade → ℕ → ℕ × ℕ → Type 0
-IsLookAt m posted1 look = IsMissed 31 m.size1 look.0 look.1 × (posted1 ≤ look.0)
+IsLookAt m posted1 look = IsMissed RX_DESC_GENERATION_BIT m.size1 look.0 look.1 × (posted1 ≤ look.0)
 
 module _ (m : RxMade) (posted1 posted2 : ℕ) where
   looks_further : (a : Stand) → All (IsLookAt m posted1) a.looks → All (IsLookAt m posted1) (further m a (finding m posted1 a)).looks

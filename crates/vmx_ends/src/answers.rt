@@ -1,5 +1,5 @@
 //! What the calls of queue ends answer. Each answer but the first of its call has its cause in the call's contract.
-use crate::RxMeta;
+use crate::{RxMeta, TxMark};
 use vmx_layout::FieldFault;
 
 /// A driver posts a frame.
@@ -23,7 +23,7 @@ pub enum Reap {
 /// A device takes the next frame that was posted.
 #[derive(Clone, Copy, Debug, PartialEq, Eq)]
 pub enum Take {
-    Frame { place: u64 },
+    Frame { place: u64, mark: TxMark },
     /// No further frame is there: a load of this call found this second word.
     Empty { word: u64 },
     /// The given words of a descriptor show a fault. Only ends over given words answer so.
@@ -73,12 +73,13 @@ pub enum Receive {
 pub enum EndFault {
     /// A bit without a name is set.
     Field { fault: FieldFault },
-    /// An offload that was not asked for, by its number in the descriptor.
+    /// The offload mode 1, which no descriptor may have.
     Offload { om: u32 },
     /// A sixteenth descriptor without end of packet.
     Chain { descriptors: u32 },
-    /// The lengths of a frame's pieces are together below 14 or above 9,022 bytes.
+    /// Transmit: the lengths of a frame's pieces are together below 14 or above 9,022 bytes, or above 9,018 where a tag is
+    /// to be put in. Receive: the length of a HEAD's buffer is not 2,048, or of a BODY's not 4,096.
     Size { bytes: u32 },
-    /// An address other than its buffer's.
+    /// An address other than its buffer's, which `vmx_layout` tells.
     Address { found: u64 },
 }

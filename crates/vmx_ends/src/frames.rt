@@ -1,10 +1,11 @@
 //! Frames as the views of ends and the rules of tables see them. No value of these types is made.
-use crate::RxMeta;
+use crate::{RxMeta, TxMark};
 use std::collections::LinkedList;
 
-/// A frame that a driver posted.
+/// A frame that a driver posted, with its mark.
 pub struct Sent {
     pub frame: LinkedList<u8>,
+    pub mark: TxMark,
 }
 
 /// A frame that a device took, and how many descriptors it found for it.

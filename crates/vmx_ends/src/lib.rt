@@ -10,11 +10,13 @@ mod answers;
 mod carrying;
 mod fabric;
 mod frames;
+mod limits;
 mod made;
 mod meta;
 mod packet;
 mod queues;
 mod rx;
+mod rx_queues;
 mod tx;
 pub mod walk;
 
@@ -22,9 +24,18 @@ pub use answers::{Deliver, EndFault, Post, Reap, Receive, Take};
 pub use carrying::{carry, carry_rx, pass, pass_rx};
 pub use fabric::{Ends, Fabric};
 pub use frames::{Delivery, Sent, Taken};
+pub use limits::{
+    BODY_SIZE, HEAD_SIZE, MAX_BODIES, MAX_DESCRIPTORS, MAX_PIECE, MAX_TAGLESS_FRAME, MIN_PIECE,
+    MIN_PIECE_WITH_DATA, RING_STEP, ZERO_LENGTH,
+};
 pub use made::{Bodies, RxMade, RxShape, TxMade};
-pub use meta::RxMeta;
-pub use packet::{MAX_FRAME, MIN_FRAME, Packet, QueueName, Tag};
+pub use meta::{RxMeta, TxMark};
+pub use packet::{Packet, QueueName, Tag};
 pub use queues::{TxQueues, make_queues, meet_queues};
 pub use rx::{RxDevice, RxDriver, RxFacts, RxNote};
+pub use rx_queues::{RxQueues, make_rx_queues, meet_rx_queues};
 pub use tx::{TxDevice, TxDriver, TxFacts, TxNote};
+pub use vmx_io::{MAX_FRAME, MIN_FRAME};
+
+#[cfg(test)]
+mod tests;

@@ -9,6 +9,8 @@ pub struct TxMade {
     /// Descriptors, 32 to 4,096 in steps of 32. The completion ring has as many.
     pub size: u32,
     pub piece: u32,
+    /// The first 128 bytes of a frame are a piece of their own.
+    pub with_data: bool,
     /// A driver stands behind it, and all its descriptors were free at the start.
     pub full: bool,
 }
@@ -30,6 +32,8 @@ pub struct RxMade {
     pub size1: u32,
     pub size2: u32,
     pub bodies: Bodies,
+    /// A short frame lies in a data ring.
+    pub with_data: bool,
     /// All descriptors were the device's at the start.
     pub full: bool,
 }
@@ -42,4 +46,5 @@ pub struct RxShape {
     pub size1: u32,
     pub size2: u32,
     pub bodies: u32,
+    pub with_data: bool,
 }

@@ -1,16 +1,11 @@
 //! A packet is a copy of a sent frame on its way from one guest to another.
 //! Its tag says where the frame was sent: guest, activation, queue and place, each counted from 0. Own to this project.
 //! A frame has 14 to 9,022 bytes: an Ethernet header at least, and at most a header with a VLAN tag and an MTU of 9,000.
-ghost use Rattle.std.specs.Prelude.{◌≡◌, ◌≤◌, length};
-ghost use Rattle.vmx_ends.specs.declared.packet.TheConstants.{MIN_FRAME, MAX_FRAME};
+ghost use Rattle.std.specs.Prelude.{◌≡◌, ◌≤◌, ◌<◌, ◌^◌, ℕ, length, slice_index, IfOk};
+ghost use Rattle.vmx_io.specs.declared.buffer.TheConstants.{MIN_FRAME, MAX_FRAME};
 
+use std::alloc::{AllocError, Global};
 use vmx_io::Bytes;
-
-/// The fewest bytes of a frame.
-pub const MIN_FRAME: usize = 14;
-
-/// The most bytes of a frame.
-pub const MAX_FRAME: usize = 9022;
 
 /// Where a frame was sent.
 #[derive(Clone, Copy, Debug, PartialEq, Eq)]
@@ -41,6 +36,32 @@ pub struct Packet {
     pub frame: Bytes,
     ghost least: { MIN_FRAME ≤ length frame },
     ghost most: { length frame ≤ MAX_FRAME },
+    pub ghost octets: { (i : ℕ) → slice_index frame i < 2 ^ 8 },
+}
+
+impl Packet {
+    /// A packet with a copy of these bytes.
+    pub fn copy_of(alloc: Global, tag: Tag, frame: &[u8]) -> Result<Packet, AllocError>
+        requires bounds { (MIN_FRAME ≤ length frame.now) × (length frame.now ≤ MAX_FRAME) }
+        ensures tag { IfOk result (λ p. p.tag ≡ tag) }
+        ensures frame { IfOk result (λ p. p.frame ≡ frame.now) }
+    {
+        Ok(Packet {
+            tag,
+            frame: Bytes::from_slice(alloc, frame)?,
+        })
+    }
+
+    /// A packet with these bytes.
+    pub fn holding(tag: Tag, frame: Vec<u8>) -> Packet
+        requires bounds { (MIN_FRAME ≤ length frame.items) × (length frame.items ≤ MAX_FRAME) }
+        ensures frame { result.frame ≡ frame.items }
+    {
+        Packet {
+            tag,
+            frame: Bytes::of(frame),
+        }
+    }
 }
 
 impl Tag {

@@ -4,9 +4,10 @@
 //! ring 1, BODY descriptors before it being passed over. Each further piece lies in ring 1's next where that is BODY and
 //! the device's, else in ring 2's next. A driver receives the frames in that order and posts their buffers back.
 ghost use Rattle.std.specs.Prelude.{◌≡◌, ◌≤◌, ◌<◌, ◌^◌, ℕ, suc, length, true, false, vec_len, vec_capacity};
+ghost use Rattle.vmx_io.specs.declared.buffer.TheConstants.{MAX_FRAME};
 ghost use Rattle.vmx_ends.specs.Frames.{IsFrame};
 ghost use Rattle.vmx_ends.specs.Receive.{RxDeviceView, RxDriverView, RxNoteView, RxView, used, pieces_of, consumed1, consumed2};
-ghost use Rattle.vmx_ends.specs.ReceiveClauses.{Delivers, Receives, GrowsDelivered, GrowsReceived, device_note, driver_note, DeviceHears, DriverHears};
+ghost use Rattle.vmx_ends.specs.ReceiveClauses.{Delivers, Receives, GrowsDelivered, GrowsReceived, NotesDevice, driver_note, DeviceHears, DriverHears};
 
 use crate::{Deliver, QueueName, Receive, RxMeta};
 
@@ -30,10 +31,9 @@ pub trait RxDevice: Drop + Send {
         ensures delivers { Delivers (view self.old) frame.now meta.now result (view self.new) }
         ensures grows { GrowsDelivered (view self.old) (view self.new) };
 
-    /// A copy of what this end did, for the other end to hear.
+    /// A copy of what this end did, for the other end to hear. An end over given words tells nothing.
     fn note(&mut self) -> Self::Note
-        ensures same { view self.new ≡ record (view self.old) { notes_given = suc (view self.old).notes_given } }
-        ensures tells { Self.Note.view result ≡ device_note (view self.old) };
+        ensures notes { NotesDevice (view self.old) (Self.Note.view result) (view self.new) };
 
     /// Hears a note that fits: of this queue, and of the driver.
     fn hear(&mut self, note: Self::Note)
@@ -52,7 +52,7 @@ pub trait RxDriver: Drop + Send {
     /// passed over before it.
     fn receive(&mut self, into: &mut Vec<u8>) -> Receive
         requires empty { vec_len into.old ≡ 0 }
-        requires room { 9022 ≤ vec_capacity into.old }
+        requires room { MAX_FRAME ≤ vec_capacity into.old }
         requires small { (length (view self.old).received < 2 ^ 62) × (used pieces_of (view self.old).received < 2 ^ 62) }
         ensures receives { Receives (view self.old) into.new.items result (view self.new) }
         ensures room { vec_capacity into.old ≤ vec_capacity into.new }

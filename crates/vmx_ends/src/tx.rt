@@ -3,11 +3,12 @@
 //! A driver posts frames, and a device takes them in that order and completes each before it takes the next. A frame's
 //! descriptors are the driver's again when it is completed, and can be used again when the driver has reaped it.
 ghost use Rattle.std.specs.Prelude.{◌≡◌, ◌≤◌, ◌<◌, ◌^◌, ℕ, suc, length, true, false, vec_len, vec_capacity};
-ghost use Rattle.vmx_ends.specs.Frames.{IsFrame};
+ghost use Rattle.vmx_io.specs.declared.buffer.TheConstants.{MAX_FRAME};
+ghost use Rattle.vmx_ends.specs.Frames.{IsMarked};
 ghost use Rattle.vmx_ends.specs.Transmit.{TxDriverView, TxDeviceView, TxNoteView, TxView, posted, found_in};
-ghost use Rattle.vmx_ends.specs.TransmitClauses.{Posts, Reaps, Takes, Completes, GrowsPosted, GrowsReaped, GrowsTaken, driver_note, device_note, DriverHears, DeviceHears, IsIdle};
+ghost use Rattle.vmx_ends.specs.TransmitClauses.{Posts, Reaps, Takes, Completes, GrowsPosted, GrowsReaped, GrowsTaken, driver_note, NotesDevice, DriverHears, DeviceHears, IsIdle};
 
-use crate::{Post, QueueName, Reap, Take};
+use crate::{Post, QueueName, Reap, Take, TxMark};
 
 /// What one end of a transmit queue tells the other.
 pub trait TxNote: Drop + Send {
@@ -20,11 +21,11 @@ pub trait TxDriver: Drop + Send {
 
     ghost view: { Self → TxDriverView };
 
-    /// Posts a frame of 14 to 9,022 bytes behind those posted before.
-    fn post(&mut self, frame: &[u8]) -> Post
-        requires frame { IsFrame frame.now }
+    /// Posts a frame of 14 to 9,022 bytes, 9,018 where a tag is to be put in, behind those posted before.
+    fn post(&mut self, frame: &[u8], mark: &TxMark) -> Post
+        requires frame { IsMarked frame.now mark.now }
         requires small { (length (view self.old).sent < 2 ^ 62) × (posted (view self.old) < 2 ^ 62) }
-        ensures posts { Posts (view self.old) frame.now result (view self.new) }
+        ensures posts { Posts (view self.old) frame.now mark.now result (view self.new) }
         ensures grows { GrowsPosted (view self.old) (view self.new) };
 
     /// Takes back the descriptors of the next frame that was completed.
@@ -55,7 +56,7 @@ pub trait TxDevice: Drop + Send {
     /// not completed.
     fn take(&mut self, into: &mut Vec<u8>) -> Take
         requires empty { vec_len into.old ≡ 0 }
-        requires room { 9022 ≤ vec_capacity into.old }
+        requires room { MAX_FRAME ≤ vec_capacity into.old }
         requires idle { IsIdle (view self.old) }
         requires small { (length (view self.old).taken < 2 ^ 62) × (found_in (view self.old).taken < 2 ^ 62) }
         ensures takes { Takes (view self.old) into.new.items result (view self.new) }
@@ -68,10 +69,9 @@ pub trait TxDevice: Drop + Send {
         requires small { length (view self.old).taken < 2 ^ 62 }
         ensures completes { Completes (view self.old) (view self.new) };
 
-    /// A copy of what this end did, for the other end to hear.
+    /// A copy of what this end did, for the other end to hear. An end over given words tells nothing.
     fn note(&mut self) -> Self::Note
-        ensures same { view self.new ≡ record (view self.old) { notes_given = suc (view self.old).notes_given } }
-        ensures tells { Self.Note.view result ≡ device_note (view self.old) };
+        ensures notes { NotesDevice (view self.old) (Self.Note.view result) (view self.new) };
 
     /// Hears a note that fits: of this queue, and of the driver.
     fn hear(&mut self, note: Self::Note)

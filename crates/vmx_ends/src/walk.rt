@@ -1,6 +1,8 @@
 //! The walk of one delivery, by numbers: where its head lies, and where its further pieces go. Every form of a receive
 //! queue that knows how many positions are posted computes it so.
 ghost use Rattle.std.specs.Prelude.{◌≡◌, ℕ, ◌+◌, ◌^◌, ◌<◌, ◌≤◌};
+ghost use Rattle.vmx_layout.specs.declared.addresses.TheConstants.{MAX_RING_SIZE};
+ghost use Rattle.vmx_ends.specs.declared.limits.TheConstants.{MAX_BODIES};
 ghost use Rattle.vmx_ends.specs.Receive.{is_body};
 ghost use Rattle.vmx_ends.specs.ReceiveClauses.{made_of};
 ghost use Rattle.vmx_ends.specs.Core.{head_from, outcome};
@@ -26,7 +28,7 @@ pub struct Next {
 
 /// The walk of a frame of `n` + 1 pieces, from `at` on, where so many positions of each supply are posted.
 pub fn walk_by(shape: &RxShape, at: Next, posted1: u64, posted2: u64, n: u32) -> WalkEnd
-    requires shape { (0 < shape.now.size1) × (shape.now.size1 ≤ 4096) × (shape.now.bodies ≤ 2) }
+    requires shape { (0 < shape.now.size1) × (shape.now.size1 ≤ MAX_RING_SIZE) × (shape.now.bodies ≤ MAX_BODIES) }
     requires pieces { n ≤ 2 }
     requires small { (at.one < 2 ^ 62) × (at.two < 2 ^ 62) }
     ensures walk { IsPlan (outcome (made_of shape.now) at.one at.two posted1 posted2 n) result }
@@ -58,7 +60,7 @@ pub fn walk_by(shape: &RxShape, at: Next, posted1: u64, posted2: u64, n: u32) ->
 
 /// The first HEAD from a position on, looked for `fuel` times.
 fn head_of(shape: &RxShape, fuel: u32, from: u64) -> u64
-    requires shape { (0 < shape.now.size1) × (shape.now.bodies ≤ 2) }
+    requires shape { (0 < shape.now.size1) × (shape.now.bodies ≤ MAX_BODIES) }
     requires small { from + fuel < 2 ^ 63 }
     ensures head { result ≡ head_from (made_of shape.now) fuel from }
 {
@@ -73,7 +75,7 @@ fn head_of(shape: &RxShape, fuel: u32, from: u64) -> u64
 
 /// Where `n` further pieces go, up to the first that is not posted in ring 2.
 fn way(shape: &RxShape, posted1: u64, posted2: u64, n: u32, at: Next) -> Next
-    requires shape { (0 < shape.now.size1) × (shape.now.bodies ≤ 2) }
+    requires shape { (0 < shape.now.size1) × (shape.now.bodies ≤ MAX_BODIES) }
     requires small { (at.one + n < 2 ^ 63) × (at.two + n < 2 ^ 63) }
     ensures way { (result.one, result.two) ≡ ways (made_of shape.now) posted1 posted2 n at.one at.two }
 {
@@ -89,7 +91,7 @@ fn way(shape: &RxShape, posted1: u64, posted2: u64, n: u32, at: Next) -> Next
 
 /// Where a further piece goes.
 fn step_on(shape: &RxShape, posted1: u64, at: Next) -> Next
-    requires shape { (0 < shape.now.size1) × (shape.now.bodies ≤ 2) }
+    requires shape { (0 < shape.now.size1) × (shape.now.bodies ≤ MAX_BODIES) }
     requires small { (at.one < 2 ^ 63) × (at.two < 2 ^ 63) }
     ensures step { (result.one, result.two) ≡ next_of (made_of shape.now) posted1 at.one at.two }
 {
@@ -109,7 +111,7 @@ fn step_on(shape: &RxShape, posted1: u64, at: Next) -> Next
 
 /// Whether ring 1 has a BODY descriptor at a position.
 fn stands_body(shape: &RxShape, position: u64) -> bool
-    requires shape { (0 < shape.now.size1) × (shape.now.bodies ≤ 2) }
+    requires shape { (0 < shape.now.size1) × (shape.now.bodies ≤ MAX_BODIES) }
     ensures body { result ≡ is_body (made_of shape.now) position }
 {
     let shape = *shape;

@@ -22,8 +22,8 @@ module _ {D E : Type 0} (d : D → TxDriverView) (e : E → TxDeviceView) (made 
 pub loop-queue-preserved : goal.loop-queue-preserved
 loop-queue-preserved g c = let n = c.loop-queue.invariant.count in let long = ap length (c.in_ok-push.ensures.ok) ∙ length-append c.loop-queue.drivers (c.in_ok-driver.driver ∷ []) in record {
   count = omega arith;
-  goes_on = step g.F.TxDriver.TxDriver.view g.F.TxDevice.TxDevice.view (λ (q : ℕ). made_tx (queue_name c.args.guest c.args.activation q) c.args.size c.args.piece) c.loop-queue.queue _ c.loop-queue.drivers c.push.new.self c.loop-queue.devices c.push-in-loop-queue.new.self c.in_ok-driver.driver c.in_ok-driver.device refl c.in_ok-push.ensures.ok c.in_ok-push-2.ensures.ok c.in_ok-driver.ensures.made c.loop-queue.invariant.goes_on;
+  goes_on = step g.F.TxDriver.TxDriver.view g.F.TxDevice.TxDevice.view (λ (q : ℕ). made_tx (queue_name c.args.guest c.args.activation q) c.args.size c.args.piece c.args.with_data) c.loop-queue.queue _ c.loop-queue.drivers c.push.new.self c.loop-queue.devices c.push-in-loop-queue.new.self c.in_ok-driver.driver c.in_ok-driver.device refl c.in_ok-push.ensures.ok c.in_ok-push-2.ensures.ok c.in_ok-driver.ensures.made c.loop-queue.invariant.goes_on;
 }
 
 pub returns-clause-queues : goal.returns-clause-queues
-returns-clause-queues g c = done g.F.TxDriver.TxDriver.view g.F.TxDevice.TxDevice.view (λ (q : ℕ). made_tx (queue_name c.args.guest c.args.activation q) c.args.size c.args.piece) c.loop-queue.queue c.loop-queue.drivers c.loop-queue.devices c.loop-queue.invariant.goes_on
+returns-clause-queues g c = done g.F.TxDriver.TxDriver.view g.F.TxDevice.TxDevice.view (λ (q : ℕ). made_tx (queue_name c.args.guest c.args.activation q) c.args.size c.args.piece c.args.with_data) c.loop-queue.queue c.loop-queue.drivers c.loop-queue.devices c.loop-queue.invariant.goes_on
