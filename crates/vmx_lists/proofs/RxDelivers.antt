@@ -1,14 +1,15 @@
 -- The contract of a delivery, from what its steps told.
-use Rattle.std.proofs.Common.{◌≡◌, ℕ, suc, ◌+◌, ◌/◌, ◌%◌, ◌<◌, ◌≤◌, inl, inr, List, [], ◌∷◌, ◌++◌, length, take, set, get_or, Bool, true, false, true≢false, cond, ◌==◌, sym, refl, ap, ◌∙◌, subst, ⊎_elim, arith, All, length-append, mod-lt, get_or-set_same, get_or-set_other, le_refl}
+use Rattle.std.proofs.Common.{◌≡◌, ℕ, suc, ◌+◌, ◌%◌, ◌<◌, ◌≤◌, inl, inr, List, [], ◌∷◌, ◌++◌, length, take, set, get_or, false, true≢false, sym, refl, ap, ◌∙◌, subst, ⊎_elim, arith, All, length-append, mod-lt, get_or-set_same, get_or-set_other, le_refl}
 use Rattle.std.proofs.lemmas.List.{take-append-le}
 use Rattle.std.proofs.Math.Seq.{take-length}
 use mathlib.Core.Logic.{dite}
 use native.Mathlib.Decide.{ℕ_discrete}
 use Rattle.vmx_ends.specs.declared.made.RxMade.{RxMade}
 use Rattle.vmx_ends.specs.declared.frames.Delivery.{Delivery}
+use Rattle.vmx_layout.specs.declared.TheConstants.{RX_DESC_GENERATION_BIT}
 use Rattle.vmx_ends.specs.Words.{missed_word}
-use Rattle.vmx_ends.specs.Receive.{RxDeviceView, used, took1, took2, posted1, posted2, in_ring}
-use Rattle.vmx_ends.specs.Walk.{Stand, AreBodies, IsHead}
+use Rattle.vmx_ends.specs.Receive.{RxDeviceView, used, took1, took2, posted1, posted2}
+use Rattle.vmx_ends.specs.Walk.{further_pieces, Stand, AreBodies, IsHead}
 use Rattle.vmx_ends.specs.Core.{takes, misses, head_from}
 use Rattle.vmx_ends.specs.ReceiveClauses.{DeliversFrame, Refuses, MissesHead, MissesBody, IsLook1, GrowsDelivered, ring_size}
 use Rattle.vmx_lists.specs.declared.rx.log.RxLog.{RxLog}
@@ -17,9 +18,10 @@ use Rattle.vmx_lists.specs.RxPlays.{Seated, sight, going, refusing, LooksAround,
 use Rattle.vmx_lists.specs.RxEnds.{device_seen}
 use Rattle.vmx_lists.specs.RxSums.{AreSums}
 use Rattle.vmx_ends.specs.WalkCounts.{used-append, used_take_more}
-use Rattle.vmx_laps.specs.Moves.{elsewhere}
+use Rattle.vmx_ring_laws.specs.Moves.{elsewhere}
 use Rattle.vmx_ends.specs.declared.made.Bodies.TheVariants.{Every}
 use Rattle.vmx_ends.specs.declared.meta.RxMeta.{RxMeta}
+use Rattle.vmx_ends.specs.WalkFollows.{in_ring_few}
 use Rattle.vmx_ends.specs.WalkLaws.{through, Short, short, IsLookAt, head_is}
 use Rattle.vmx_ends.specs.HeadNear.{head_soon}
 use Rattle.vmx_ends.specs.ExactWalk.{one_head}
@@ -38,8 +40,8 @@ sent_view v r frame meta passed end = record v {
   looks = v.looks ++ end.looks;
 }
 
-pub filled_is : (v w : RxLog) (r len p : ℕ) (end : Stand) (x : RxParcel) (frame : List ℕ) (meta : RxMeta) → w ≡ going v r → x.len ≡ len → sight ((len + 2047) / 4096) v r ≡ takes p end → take x.len x.bytes.items ≡ frame → x.meta ≡ meta → filled w x ≡ sent_view v r frame meta p end
-filled_is v w r len p end x frame meta e len_is is a b = ap (λ z. filled z x) e ∙ ap (λ o. record (going v r) { busy = false; delivered = v.delivered ++ added o x; looks = v.looks ++ walk_looks o }) (ap (λ (l : ℕ). sight ((l + 2047) / 4096) v r) len_is ∙ is)
+pub filled_is : (v w : RxLog) (r len p : ℕ) (end : Stand) (x : RxParcel) (frame : List ℕ) (meta : RxMeta) → w ≡ going v r → x.len ≡ len → sight (further_pieces len) v r ≡ takes p end → take x.len x.bytes.items ≡ frame → x.meta ≡ meta → filled w x ≡ sent_view v r frame meta p end
+filled_is v w r len p end x frame meta e len_is is a b = ap (λ z. filled z x) e ∙ ap (λ o. record (going v r) { busy = false; delivered = v.delivered ++ added o x; looks = v.looks ++ walk_looks o }) (ap (λ (l : ℕ). sight (further_pieces l) v r) len_is ∙ is)
     ∙ (λ i. sent_view v r (a i) (b i) p end)
 
 module _ (key : List ℕ) (v : RxLog) (r n bodies : ℕ) (pos : 0 < v.made.size1) (every : v.made.bodies ≡ Every bodies) (cycle : bodies ≤ 2) (short_frame : n ≤ 2) (around : LooksAround (v, []) r) where
@@ -61,7 +63,7 @@ module _ (key : List ℕ) (v : RxLog) (r n bodies : ℕ) (pos : 0 < v.made.size1
   was : (posted1 v.made (take v.seen v.delivered) ≤ p1) × (posted2 v.made (take v.seen v.delivered) ≤ p2)
   was = let a = used_take_more took1 v.delivered v.seen r around.seen in let b = used_take_more took2 v.delivered v.seen r around.seen in ((omega arith), (omega arith))
 
-  pub delivers : (p : ℕ) (end : Stand) (frame : List ℕ) (meta : RxMeta) (w : RxLog) → sight n v r ≡ takes p end → n ≡ (length frame + 2047) / 4096 → w ≡ sent_view v r frame meta p end → DeliversFrame (device_seen key v) frame meta (device_seen key w)
+  pub delivers : (p : ℕ) (end : Stand) (frame : List ℕ) (meta : RxMeta) (w : RxLog) → sight n v r ≡ takes p end → n ≡ further_pieces (length frame) → w ≡ sent_view v r frame meta p end → DeliversFrame (device_seen key v) frame meta (device_seen key w)
   delivers p end frame meta w is n_is w_is =
       let t = through v.made bodies (used took1 v.delivered) (used took2 v.delivered) p1 p2 n every pos p end is in let many = t.as_many in let long = t.pieces in let low = soon v.made bodies (used took1 v.delivered) p every pos t.head in
       let d : Delivery = record { frame = frame; meta = meta; passed = p; chain = end.chain } in
@@ -82,8 +84,8 @@ module _ (key : List ℕ) (v : RxLog) (r n bodies : ℕ) (pos : 0 < v.made.size1
         is = refl;
       }
 
-  pub refuses : (bytes ring p : ℕ) (looks : List (ℕ × ℕ)) (w : RxLog) → sight n v r ≡ misses ring p looks → n ≡ (bytes + 2047) / 4096 → w ≡ refusing v r ring p looks → Refuses (device_seen key v) bytes ring p (missed_word 31 (ring_size v.made ring) p) (length v.refused) (device_seen key w)
-  refuses bytes ring p looks w is n_is w_is = subst (λ z. Refuses (device_seen key v) bytes ring p (missed_word 31 (ring_size v.made ring) p) (length v.refused) (device_seen key z)) (sym w_is) record {
+  pub refuses : (bytes ring p : ℕ) (looks : List (ℕ × ℕ)) (w : RxLog) → sight n v r ≡ misses ring p looks → n ≡ further_pieces bytes → w ≡ refusing v r ring p looks → Refuses (device_seen key v) bytes ring p (missed_word RX_DESC_GENERATION_BIT (ring_size v.made ring) p) (length v.refused) (device_seen key w)
+  refuses bytes ring p looks w is n_is w_is = subst (λ z. Refuses (device_seen key v) bytes ring p (missed_word RX_DESC_GENERATION_BIT (ring_size v.made ring) p) (length v.refused) (device_seen key z)) (sym w_is) record {
     fine = refl;
     looks = looks;
     where_ = ⊎_elim
@@ -95,12 +97,12 @@ module _ (key : List ℕ) (v : RxLog) (r n bodies : ℕ) (pos : 0 < v.made.size1
     is = refl;
   }
     where
-      by_head : (ring p : ℕ) → 1 ≡ ring → p1 ≡ p → AreBodies v.made (used took1 v.delivered) p1 → MissesHead (device_seen key v) p (missed_word 31 (ring_size v.made ring) p) (device_seen key (refusing v r ring p looks))
-      by_head ring p a b bodies = subst (λ (z : ℕ × ℕ). MissesHead (device_seen key v) z.1 (missed_word 31 (ring_size v.made z.0) z.1) (device_seen key (refusing v r z.0 z.1 looks))) (λ i. (a i, b i))
+      by_head : (ring p : ℕ) → 1 ≡ ring → p1 ≡ p → AreBodies v.made (used took1 v.delivered) p1 → MissesHead (device_seen key v) p (missed_word RX_DESC_GENERATION_BIT (ring_size v.made ring) p) (device_seen key (refusing v r ring p looks))
+      by_head ring p a b bodies = subst (λ (z : ℕ × ℕ). MissesHead (device_seen key v) z.1 (missed_word RX_DESC_GENERATION_BIT (ring_size v.made z.0) z.1) (device_seen key (refusing v r z.0 z.1 looks))) (λ i. (a i, b i))
           record { bodies = bodies; missed = (missed_is _ _, far1); seen = le_refl p1 }
 
-      by_body : (ring p : ℕ) (looks : List (ℕ × ℕ)) → 2 ≡ ring → p2 ≡ p → Short v.made (used took1 v.delivered) (used took2 v.delivered) p1 p2 n looks → MissesBody (device_seen key v) bytes p (missed_word 31 (ring_size v.made ring) p) looks (device_seen key (refusing v r ring p looks))
-      by_body ring p looks a b s = subst (λ (z : ℕ × ℕ). MissesBody (device_seen key v) bytes z.1 (missed_word 31 (ring_size v.made z.0) z.1) looks (device_seen key (refusing v r z.0 z.1 looks))) (λ i. (a i, b i))
+      by_body : (ring p : ℕ) (looks : List (ℕ × ℕ)) → 2 ≡ ring → p2 ≡ p → Short v.made (used took1 v.delivered) (used took2 v.delivered) p1 p2 n looks → MissesBody (device_seen key v) bytes p (missed_word RX_DESC_GENERATION_BIT (ring_size v.made ring) p) looks (device_seen key (refusing v r ring p looks))
+      by_body ring p looks a b s = subst (λ (z : ℕ × ℕ). MissesBody (device_seen key v) bytes z.1 (missed_word RX_DESC_GENERATION_BIT (ring_size v.made z.0) z.1) looks (device_seen key (refusing v r z.0 z.1 looks))) (λ i. (a i, b i))
           (let few = s.not_all in record {
             passed = s.passed;
             found = s.found;
@@ -128,24 +130,16 @@ sums_more n ds d ones twos a b sums l1 l2 a_is b_is p less near = let long : len
 pub around_of : (m : Seated) (r : ℕ) → LooksAround m r → LooksAround (m.0, []) r
 around_of m r a = record { seen = a.seen; heard = a.heard; behind = a.behind; within = a.within; heard1 = a.heard1; heard2 = a.heard2; within1 = a.within1; within2 = a.within2 }
 
-in_ring_most : (r : ℕ) (chain : List (ℕ × ℕ)) → in_ring r chain ≤ length chain
-in_ring_most r [] = omega arith
-in_ring_most r (x ∷ chain) = by_case (x.0 == r) (in_ring_most r chain)
-  where
-    by_case : (b : Bool) → in_ring r chain ≤ length chain → cond b (suc (in_ring r chain)) (in_ring r chain) ≤ suc (length chain)
-    by_case true e = omega arith
-    by_case false e = omega arith
-
 -- how much a delivery and a refusal add
-pub grows_delivered : (old : RxDeviceView) (frame : List ℕ) (meta : RxMeta) (new : RxDeviceView) → old.made.full ≡ true → DeliversFrame old frame meta new → GrowsDelivered old new
-grows_delivered old frame meta new full d = let x : Delivery = record { frame = frame; meta = meta; passed = d.passed; chain = d.end.chain } in
+pub grows_delivered : (old : RxDeviceView) (frame : List ℕ) (meta : RxMeta) (new : RxDeviceView) → old.given ≡ false → DeliversFrame old frame meta new → GrowsDelivered old new
+grows_delivered old frame meta new fine d = let x : Delivery = record { frame = frame; meta = meta; passed = d.passed; chain = d.end.chain } in
     let a = ap (λ (v : RxDeviceView). length v.delivered) d.is ∙ length-append old.delivered (x ∷ []) in let b = ap (λ (v : RxDeviceView). length v.refused) d.is in
     let u1 = ap (λ (v : RxDeviceView). used took1 v.delivered) d.is ∙ used-append took1 old.delivered (x ∷ []) in let u2 = ap (λ (v : RxDeviceView). used took2 v.delivered) d.is ∙ used-append took2 old.delivered (x ∷ []) in
-    let few = d.few full in let i1 = in_ring_most 1 d.end.chain in let i2 = in_ring_most 2 d.end.chain in
-    record { delivered = omega arith; refused = omega arith; positions = λ _. (omega arith, omega arith); within = λ e. absurd (true≢false (sym full ∙ e)) }
+    let few = d.few fine in let i1 = in_ring_few 1 d.end.chain in let i2 = in_ring_few 2 d.end.chain in
+    record { delivered = omega arith; refused = omega arith; positions = λ _. (omega arith, omega arith); within = λ e. absurd (true≢false (sym e ∙ fine)) }
 
-pub grows_refused : (old : RxDeviceView) (bytes ring position word look : ℕ) (new : RxDeviceView) → old.made.full ≡ true → Refuses old bytes ring position word look new → GrowsDelivered old new
-grows_refused old bytes ring position word look new full r =
+pub grows_refused : (old : RxDeviceView) (bytes ring position word look : ℕ) (new : RxDeviceView) → old.given ≡ false → Refuses old bytes ring position word look new → GrowsDelivered old new
+grows_refused old bytes ring position word look new fine r =
     let a = ap (λ (v : RxDeviceView). length v.delivered) r.is in let b = ap (λ (v : RxDeviceView). length v.refused) r.is ∙ length-append old.refused ((ring, position, word) ∷ []) in
     let u1 = ap (λ (v : RxDeviceView). used took1 v.delivered) r.is in let u2 = ap (λ (v : RxDeviceView). used took2 v.delivered) r.is in
-    record { delivered = omega arith; refused = omega arith; positions = λ _. (omega arith, omega arith); within = λ e. absurd (true≢false (sym full ∙ e)) }
+    record { delivered = omega arith; refused = omega arith; positions = λ _. (omega arith, omega arith); within = λ e. absurd (true≢false (sym e ∙ fine)) }

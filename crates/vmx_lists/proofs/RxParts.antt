@@ -18,9 +18,9 @@ use Rattle.vmx_lists.specs.declared.rx.log.RxParcel.{RxParcel}
 use Rattle.vmx_lists.specs.RxRing.{Story, Fits, Devices, Drivers, Queue, ahead, one_if, by_device, by_driver, nobody, newcomer, device_part, driver_part, together, gave_device, device_slip, gave_driver, driver_slip, hears_device, hears_driver}
 use Rattle.vmx_lists.specs.RxPlays.{met, device_told, driver_told}
 use Rattle.vmx_ends.specs.WalkCounts.{used_prefix, used_take_more}
-use Rattle.vmx_laps.specs.Views.{all_set, all_snoc, total_set, total_snoc, total_same}
-use Rattle.vmx_laps.specs.Lists.{prefix_trans, prefix_of_take, take_of_prefix}
-use Rattle.vmx_laps.specs.Steps.{stays}
+use Rattle.vmx_ring_laws.specs.Views.{all_set, all_snoc, total_set, total_snoc, total_same}
+use Rattle.vmx_ring_laws.specs.Lists.{prefix_trans, prefix_of_take, take_of_prefix}
+use Rattle.vmx_ring_laws.specs.Steps.{stays}
 use Rattle.vmx_ends.specs.declared.made.RxShape.{RxShape}
 use Rattle.vmx_ends.specs.Frames.{IsComparable, longer}
 use Rattle.vmx_lists.proofs.RxRings.{IsLong}

@@ -14,8 +14,8 @@ use Rattle.vmx_ends.specs.Receive.{used, took1, took2, posted1, posted2}
 use Rattle.vmx_lists.specs.declared.rx.log.RxParcel.{RxParcel}
 use Rattle.vmx_lists.specs.RxRing.{Ring, Shows}
 use Rattle.vmx_ends.specs.WalkCounts.{used-append, used_take_more}
-use Rattle.vmx_laps.specs.Moves.{elsewhere}
-use Rattle.vmx_laps.specs.Lists.{at_below, snoc_cases}
+use Rattle.vmx_ring_laws.specs.Moves.{elsewhere}
+use Rattle.vmx_ring_laws.specs.Lists.{at_below, snoc_cases}
 use Rattle.vmx_ends.specs.Alls.{all_more}
 use Rattle.vmx_ends.specs.Frames.{IsFrame}
 

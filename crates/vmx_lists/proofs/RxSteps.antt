@@ -1,5 +1,5 @@
 -- Each step of an end keeps the rule, and what it tells.
-use Rattle.std.proofs.Common.{◌≡◌, ◌≢◌, ℕ, suc, ◌+◌, ◌/◌, ◌%◌, ◌<◌, ◌≤◌, List, [], ◌∷◌, ◌++◌, length, get_or, take, set, inl, inr, Bool, true, false, true≢false, sym, refl, ap, ap₂, ◌∙◌, subst, ⊎_elim, arith, le_refl, length-take-le, if◌then◌else◌}
+use Rattle.std.proofs.Common.{◌≡◌, ◌≢◌, ℕ, suc, ◌+◌, ◌%◌, ◌<◌, ◌≤◌, List, [], ◌∷◌, ◌++◌, length, get_or, take, set, inl, inr, Bool, true, false, true≢false, sym, refl, ap, ap₂, ◌∙◌, subst, ⊎_elim, arith, le_refl, length-take-le, if◌then◌else◌}
 use Rattle.std.proofs.lemmas.List.{set-get_or, take-append-le}
 use mathlib.Core.Logic.{dite}
 use mathlib.Core.List.{IsPrefix}
@@ -8,7 +8,7 @@ use native.Mathlib.Decide.{dec_lt, dec_le}
 use Rattle.atomic_table.specs.Table.{State, Me, Act, step, keeps, takes as takes_slot, gives, Allows, Valid, stepped, carried_after}
 use Rattle.vmx_ends.specs.declared.frames.Delivery.{Delivery}
 use Rattle.vmx_ends.specs.Receive.{used, took1, took2, posted1, posted2}
-use Rattle.vmx_ends.specs.Walk.{Stand}
+use Rattle.vmx_ends.specs.Walk.{further_pieces, Stand}
 use Rattle.vmx_ends.specs.Core.{Outcome, takes, misses}
 use Rattle.vmx_ends.specs.Frames.{IsComparable}
 use Rattle.vmx_ends.specs.ReceiveClauses.{IsRefusal, ring_size}
@@ -18,11 +18,11 @@ use Rattle.vmx_lists.specs.RxRing.{Ring, Story, Fits, Devices, Queue, ahead, by_
 use Rattle.vmx_lists.specs.RxPlays.{sight, going, refusing, LooksBy, LooksAround, device_looked, added, walk_looks, device_stored, opening_it, missing, at_rest, driver_looked, driver_stored}
 use Rattle.vmx_ends.specs.WalkCounts.{used_take_more, used_prefix, takes_counts}
 use Rattle.vmx_ends.specs.LookWords.{missed_is, misses_at}
-use Rattle.vmx_laps.specs.Views.{all_set, total_same}
-use Rattle.vmx_laps.specs.Lists.{prefix_longer, prefix_length, take_one_more, there_below, prefix_of_take, take_of_prefix}
+use Rattle.vmx_ring_laws.specs.Views.{all_set, total_same}
+use Rattle.vmx_ring_laws.specs.Lists.{prefix_longer, prefix_length, take_one_more, there_below, prefix_of_take, take_of_prefix}
 use Rattle.vmx_ends.specs.Alls.{all_more}
 use Rattle.vmx_ends.specs.Frames.{IsFrame}
-use Rattle.vmx_lists.proofs.TxCounts.{all_at}
+use Rattle.vmx_ends.specs.TransmitCounts.{all_at}
 use Rattle.vmx_lists.proofs.RxRings.{IsLong, within, takes_out, publishes, grabs, frees}
 use Rattle.vmx_lists.proofs.RxViews.{Told, device's, driver's, device_sees, driver_sees}
 
@@ -190,13 +190,13 @@ device_looks k n id me may not idle bare s l wide at _ = by_outcome (sight k v x
         )
 
 -- the device's store of the delivered number, with the parcel that its slot has
-stores_device : (n id : ℕ) (v : RxLog) (x : RxParcel) (passed : ℕ) (end : Stand) → v.delivers ≡ true → v.receives ≡ false → v.busy ≡ true → IsFrame (take x.len x.bytes.items) → sight ((x.len + 2047) / 4096) v v.seen ≡ takes passed end → x.passed ≡ passed → x.pieces ≡ length end.chain
+stores_device : (n id : ℕ) (v : RxLog) (x : RxParcel) (passed : ℕ) (end : Stand) → v.delivers ≡ true → v.receives ≡ false → v.busy ≡ true → IsFrame (take x.len x.bytes.items) → sight (further_pieces x.len) v v.seen ≡ takes passed end → x.passed ≡ passed → x.pieces ≡ length end.chain
     → Allows Queue n id (holding v (length v.delivered % n) x) 0 (λ _. length v.delivered + 1) (λ _. device_stored (step n 0 (length v.delivered + 1) 0 none) (holding v (length v.delivered % n) x) (length v.delivered + 1))
 stores_device n id v x passed end may not state frame goes_through passed_is pieces_is s l wide at _ =
     let y : Story = device's l.story n id v true in let z = device_sees s l n id v true wide at may state in let r = z.ring in let own = z.each id v at in let mine = own.device's may in
     let d : Delivery = record { frame = take x.len x.bytes.items; meta = x.meta; passed = passed; chain = end.chain } in
     let w : RxLog = record v { busy = false; delivered = v.delivered ++ d ∷ []; looks = v.looks ++ end.looks } in
-    let c = takes_counts v.made (used took1 v.delivered) (used took2 v.delivered) (posted1 v.made (take v.seen v.delivered)) (posted2 v.made (take v.seen v.delivered)) ((x.len + 2047) / 4096) passed end goes_through in
+    let c = takes_counts v.made (used took1 v.delivered) (used took2 v.delivered) (posted1 v.made (take v.seen v.delivered)) (posted2 v.made (take v.seen v.delivered)) (further_pieces x.len) passed end goes_through in
     let one = c.one in let two = c.two in let some = c.some in let m1 = used_take_more took1 v.delivered v.seen y.taken own.seen in let m2 = used_take_more took2 v.delivered v.seen y.taken own.seen in
     let behind = r.behind in let near = reached y.taken v.delivered y.reading behind r.there in let y' : Story = record y { delivered = v.delivered ++ d ∷ []; writing = false } in (
       w,
@@ -225,7 +225,7 @@ stores_device n id v x passed end may not state frame goes_through passed_is pie
     )
 
 pub device_stores : (n id : ℕ) (me : M) (v : RxLog) (x : RxParcel) (passed : ℕ) (end : Stand) (k new : ℕ) → me ≡ holding v (length v.delivered % n) x → v.delivers ≡ true → v.receives ≡ false → v.busy ≡ true
-    → IsFrame (take x.len x.bytes.items) → sight ((x.len + 2047) / 4096) v v.seen ≡ takes passed end → x.passed ≡ passed → x.pieces ≡ length end.chain → k ≡ 0 → new ≡ length v.delivered + 1
+    → IsFrame (take x.len x.bytes.items) → sight (further_pieces x.len) v v.seen ≡ takes passed end → x.passed ≡ passed → x.pieces ≡ length end.chain → k ≡ 0 → new ≡ length v.delivered + 1
     → Allows Queue n id me k (λ _. new) (λ _. device_stored (step n k new 0 none) me new)
 device_stores n id me v x passed end k new is may not state frame through passed_is pieces_is where_ what =
     subst (λ (z : M × ℕ × ℕ). Allows Queue n id z.0 z.1 (λ _. z.2) (λ _. device_stored (step n z.1 z.2 0 none) z.0 z.2)) (λ i. (sym is i, sym where_ i, sym what i)) (stores_device n id v x passed end may not state frame through passed_is pieces_is)

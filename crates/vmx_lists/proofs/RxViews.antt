@@ -8,8 +8,8 @@ use Rattle.vmx_ends.specs.declared.frames.Delivery.{Delivery}
 use Rattle.vmx_lists.specs.declared.rx.log.RxLog.{RxLog}
 use Rattle.vmx_lists.specs.declared.rx.log.RxParcel.{RxParcel}
 use Rattle.vmx_lists.specs.RxRing.{Ring, Story, Fits, Queue, ahead, by_device, by_driver}
-use Rattle.vmx_laps.specs.Views.{total}
-use Rattle.vmx_laps.specs.Views as seats
+use Rattle.vmx_ring_laws.specs.Views.{total}
+use Rattle.vmx_ring_laws.specs.Views as seats
 
 -- the rule of the state s, where all that was done is y
 pub record Told (s : State RxParcel RxLog) (y : Story) : Type 0 where

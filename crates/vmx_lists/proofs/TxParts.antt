@@ -7,9 +7,9 @@ use mathlib.Core.Option.{none, some, some-ne-none}
 use lib.ListN.{get_elem?}
 use Rattle.atomic_table.specs.Table.{Me, step, Allows, Splits, Joins, opening}
 use Rattle.atomic_table.proofs.Lists.{at_set, some_there}
-use Rattle.vmx_laps.specs.Views.{all_set, all_snoc, total_set, total_snoc, total_same}
-use Rattle.vmx_laps.specs.Lists.{prefix_beside_take}
-use Rattle.vmx_laps.specs.Steps.{stays}
+use Rattle.vmx_ring_laws.specs.Views.{all_set, all_snoc, total_set, total_snoc, total_same}
+use Rattle.vmx_ring_laws.specs.Lists.{prefix_beside_take}
+use Rattle.vmx_ring_laws.specs.Steps.{stays}
 use Rattle.vmx_ends.specs.declared.made.TxMade.{TxMade}
 use Rattle.vmx_ends.specs.declared.frames.Sent.{Sent}
 use Rattle.vmx_ends.specs.Frames.{IsComparable, longer, larger, sent_of}
@@ -18,7 +18,8 @@ use Rattle.vmx_lists.specs.declared.tx.log.TxLog.{TxLog}
 use Rattle.vmx_lists.specs.declared.tx.log.TxParcel.{TxParcel}
 use Rattle.vmx_lists.specs.TxRing.{Story, Fits, Drivers, Devices, Queue, one_if, by_driver, by_device, nobody, newcomer, driver_part, device_part, together, gave_driver, driver_slip, gave_device, device_slip, hears_device, hears_driver}
 use Rattle.vmx_lists.specs.TxPlays.{met, driver_told, device_told}
-use Rattle.vmx_lists.proofs.TxCounts.{IsLong, parts as descriptor_parts}
+use Rattle.vmx_ends.specs.TransmitCounts.{parts as descriptor_parts}
+use Rattle.vmx_lists.proofs.TxCounts.{MayGo}
 use Rattle.vmx_lists.proofs.TxViews.{same_driver, same_device}
 
 pick_longer : (F : List Sent → Type 0) (xs ys : List Sent) → F xs → F ys → F (longer xs ys)
@@ -51,7 +52,7 @@ begins m parcels pos piece many full = record {
     taken_first = omega arith;
     taken_is = refl;
     exact = refl;
-    frames = All-nil IsLong;
+    frames = All-nil MayGo;
     within = omega arith;
     room = λ e. absurd (true≢false (sym e));
     out = λ e. absurd (true≢false (sym e));

@@ -7,17 +7,18 @@ use native.Mathlib.Decide.{ℕ_discrete, dec_lt}
 use native.Mathlib.Nat.{add-mod_right}
 use lib.ListN.{get_elem?}
 use Rattle.atomic_table.proofs.Lists.{set_here, set_else}
-use Rattle.vmx_laps.specs.Moves.{elsewhere}
-use Rattle.vmx_laps.specs.Lists.{at_below, snoc_cases, take_one_more}
+use Rattle.vmx_ring_laws.specs.Moves.{elsewhere}
+use Rattle.vmx_ring_laws.specs.Lists.{at_below, snoc_cases, take_one_more}
 use Rattle.vmx_ends.specs.Alls.{all_more}
 use Rattle.vmx_ends.specs.declared.made.TxMade.{TxMade}
 use Rattle.vmx_ends.specs.declared.frames.Sent.{Sent}
 use Rattle.vmx_ends.specs.declared.frames.Taken.{Taken}
-use Rattle.vmx_ends.specs.Frames.{IsFrame, sent_of}
+use Rattle.vmx_ends.specs.Frames.{IsMarked, sent_of}
 use Rattle.vmx_ends.specs.Transmit.{need, descriptors}
 use Rattle.vmx_lists.specs.declared.tx.log.TxParcel.{TxParcel}
 use Rattle.vmx_lists.specs.TxRing.{Ring, Shows, AtHome}
-use Rattle.vmx_lists.proofs.TxCounts.{IsLong, descriptors-append, found-append, under_way, drop_one, drop_more, sent_of-append}
+use Rattle.vmx_ends.specs.TransmitCounts.{descriptors-append, found-append, under_way, drop_one, drop_more, sent_of-append}
+use Rattle.vmx_lists.proofs.TxCounts.{MayGo, all_long}
 
 -- a slot that is set leaves the others
 home_else : (homes : List (Option TxParcel)) (i j : ℕ) (o : Option TxParcel) → j ≢ i → AtHome homes j → AtHome (set homes i o) j
@@ -26,7 +27,7 @@ home_else homes i j o apart h = (h.0, set_else homes i j o apart ∙ h.1)
 module _ (m : TxMade) (n : ℕ) (words : List ℕ) (homes : List (Option TxParcel)) (sent : List Sent) (taken : List Taken) (completed reaped : ℕ) where
   -- no more frames are under way than there are slots
   pub within_slots : (filling emptying : Bool) → Ring m n words homes sent taken completed reaped filling emptying → length sent ≤ reaped + n
-  within_slots filling emptying r = let u = under_way m sent reaped r.piece r.frames in let w = r.within in let s = r.sized in omega arith
+  within_slots filling emptying r = let u = under_way m sent reaped r.piece (all_long sent r.frames) in let w = r.within in let s = r.sized in omega arith
 
   pub opens : (emptying : Bool) → Ring m n words homes sent taken completed reaped false emptying → length sent < reaped + n → Ring m n words (set homes (length sent % n) none) sent taken completed reaped true emptying
   opens emptying r less = let h : ℕ = length sent in let a = r.reaped_first in let b = r.completed_first in let c = r.taken_first in record {
@@ -60,7 +61,7 @@ module _ (m : TxMade) (n : ℕ) (words : List ℕ) (homes : List (Option TxParce
           (λ low. λ e. elsewhere n p (length sent) low (omega arith) (sym e))
           (λ high. elsewhere n (length sent) p (omega arith) (omega arith))
 
-  pub posts : (emptying : Bool) (x : TxParcel) (s : Sent) → Shows s x → IsFrame s.frame → descriptors m (drop reaped sent) + need m (length s.frame) ≤ m.size → Ring m n words homes sent taken completed reaped true emptying
+  pub posts : (emptying : Bool) (x : TxParcel) (s : Sent) → Shows s x → IsMarked s.frame s.mark → descriptors m (drop reaped sent) + need m (length s.frame) ≤ m.size → Ring m n words homes sent taken completed reaped true emptying
       → Ring m n (set words 0 (length sent + 1)) (set homes (length sent % n) (some x)) (sent ++ s ∷ []) taken completed reaped false emptying
   posts emptying x s shown frame fits r = let h : ℕ = length sent in let longer : length (sent ++ s ∷ []) ≡ h + 1 = length-append sent (s ∷ []) in let near = r.room refl in let pos = r.some_slot in
       let a = r.reaped_first in let b = r.completed_first in let c = r.taken_first in let i : ℕ = h % n in let at : i < n = mod-lt h pos in let nw = r.two_words in let nh = r.as_many_slots in
@@ -77,7 +78,7 @@ module _ (m : TxMade) (n : ℕ) (words : List ℕ) (homes : List (Option TxParce
         taken_first = omega arith;
         taken_is = r.taken_is ∙ sym (take-append-le (length taken) sent (s ∷ []) c);
         exact = r.exact;
-        frames = all_more IsLong sent s r.frames frame;
+        frames = all_more MayGo sent s r.frames frame;
         within = omega arith;
         room = λ e. absurd (true≢false (sym e));
         out = r.out;

@@ -5,17 +5,19 @@ use mathlib.Core.Logic.{dite}
 use mathlib.Core.Option.{none, some}
 use native.Mathlib.Decide.{dec_lt}
 use Rattle.atomic_table.specs.Table.{Me, step, keeps, takes as takes_slot, gives, Allows}
-use Rattle.vmx_laps.specs.Views.{all_set, total_same}
-use Rattle.vmx_laps.specs.Lists.{prefix_longer, prefix_length, there_below, prefix_beside_take, take_one_more}
+use Rattle.vmx_ring_laws.specs.Views.{all_set, total_same}
+use Rattle.vmx_ring_laws.specs.Lists.{prefix_longer, prefix_length, there_below, prefix_beside_take, take_one_more}
 use Rattle.vmx_ends.specs.declared.frames.Sent.{Sent}
+use Rattle.vmx_ends.specs.declared.meta.TxMark.{TxMark}
 use Rattle.vmx_ends.specs.declared.frames.Taken.{Taken}
-use Rattle.vmx_ends.specs.Frames.{IsFrame, IsComparable, sent_of}
+use Rattle.vmx_ends.specs.Frames.{IsMarked, IsComparable, sent_of}
 use Rattle.vmx_ends.specs.Transmit.{need, descriptors}
 use Rattle.vmx_lists.specs.declared.tx.log.TxLog.{TxLog}
 use Rattle.vmx_lists.specs.declared.tx.log.TxParcel.{TxParcel}
 use Rattle.vmx_lists.specs.TxRing.{Ring, Story, Fits, Queue, by_driver, by_device}
 use Rattle.vmx_lists.specs.TxPlays.{to_fill, driver_opened, with_sent, driver_stored, one_reaped, not_reaped, driver_looked, to_empty, not_taken, device_looked, emptied, device_returned, one_completed, device_stored}
-use Rattle.vmx_lists.proofs.TxCounts.{IsLong, under_way, sent_of-append, all_at}
+use Rattle.vmx_ends.specs.TransmitCounts.{under_way, sent_of-append, all_at}
+use Rattle.vmx_lists.proofs.TxCounts.{MayGo, all_long}
 use Rattle.vmx_lists.proofs.TxRings.{opens, posts, reaps, grabs, gives_back, completes}
 use Rattle.vmx_lists.proofs.TxViews.{driver's, device's, driver_sees, device_sees, same_driver, same_device}
 
@@ -68,7 +70,7 @@ pub driver_opens : (n id : ℕ) (me : M) → me.0.sends ≡ true → me.0.takes 
 driver_opens n id me may not idle bare some_free s l wide at _ =
     let v : TxLog = me.0 in let y : Story = driver's l.story n id v false in let z = driver_sees s l n id v false wide at may idle in let r = z.ring in let h : ℕ = length v.sent in
     let x : ℕ = get_or s.words 1 0 in let unmoved : set s.words 1 x ≡ s.words = set-get_or s.words 1 0 in let own = z.each id v at in let mine = own.driver's may in
-    let a = r.reaped_first in let b = r.completed_first in let c = r.taken_first in let u = under_way v.made v.sent v.reaped r.piece r.frames in let sized = r.sized in let less : h < v.reaped + n = omega arith in
+    let a = r.reaped_first in let b = r.completed_first in let c = r.taken_first in let u = under_way v.made v.sent v.reaped r.piece (all_long v.sent r.frames) in let sized = r.sized in let less : h < v.reaped + n = omega arith in
     let slot = r.at_home h (omega arith) less (λ _. refl) (λ e. absurd (omega arith)) in let w : TxLog = to_fill v in (
       w,
       takes_slot (h % n) slot.0,
@@ -95,17 +97,17 @@ driver_opens n id me may not idle bare some_free s l wide at _ =
     )
 
 -- the driver's store of the posted number, with the parcel that its slot has
-stores_driver : (n id : ℕ) (v : TxLog) (x : TxParcel) → v.sends ≡ true → v.takes ≡ false → v.filling ≡ true → IsFrame (take x.len x.bytes.items) → descriptors v.made (drop v.reaped v.sent) + need v.made (length (take x.len x.bytes.items)) ≤ v.made.size
+stores_driver : (n id : ℕ) (v : TxLog) (x : TxParcel) → v.sends ≡ true → v.takes ≡ false → v.filling ≡ true → IsMarked (take x.len x.bytes.items) x.mark → descriptors v.made (drop v.reaped v.sent) + need v.made (length (take x.len x.bytes.items)) ≤ v.made.size
     → Allows Queue n id (holding v (length v.sent % n) x) 0 (λ _. length v.sent + 1) (λ _. driver_stored (step n 0 (length v.sent + 1) 0 none) (holding v (length v.sent % n) x) (length v.sent + 1))
 stores_driver n id v x may not state frame fits s l wide at _ =
     let y : Story = driver's l.story n id v true in let z = driver_sees s l n id v true wide at may state in let r = z.ring in let own = z.each id v at in let mine = own.driver's may in
-    let d : Sent = record { frame = take x.len x.bytes.items } in let w : TxLog = record v { filling = false; sent = v.sent ++ d ∷ [] } in let y' : Story = record y { sent = v.sent ++ d ∷ []; filling = false } in (
+    let d : Sent = record { frame = take x.len x.bytes.items; mark = x.mark } in let w : TxLog = record v { filling = false; sent = v.sent ++ d ∷ [] } in let y' : Story = record y { sent = v.sent ++ d ∷ []; filling = false } in (
       w,
       gives,
       tt,
       record {
         story = y';
-        ring = posts v.made n s.words s.homes v.sent y.taken y.completed v.reaped y.emptying x d refl frame fits r;
+        ring = posts v.made n s.words s.homes v.sent y.taken y.completed v.reaped y.emptying x d (record { frame = refl; mark = refl }) frame fits r;
         each = all_set (Fits y') s.views id w
             record {
               driver's = λ _. record { seat_is = refl; made_is = refl; told_is = mine.told_is; sent_is = refl; reaped_is = refl; busy_is = refl; given_is = refl; heard_is = refl };
@@ -124,7 +126,7 @@ stores_driver n id v x may not state frame fits s l wide at _ =
       refl,
     )
 
-pub driver_stores : (n id : ℕ) (me : M) (v : TxLog) (x : TxParcel) (k new : ℕ) → me ≡ holding v (length v.sent % n) x → v.sends ≡ true → v.takes ≡ false → v.filling ≡ true → IsFrame (take x.len x.bytes.items)
+pub driver_stores : (n id : ℕ) (me : M) (v : TxLog) (x : TxParcel) (k new : ℕ) → me ≡ holding v (length v.sent % n) x → v.sends ≡ true → v.takes ≡ false → v.filling ≡ true → IsMarked (take x.len x.bytes.items) x.mark
     → descriptors v.made (drop v.reaped v.sent) + need v.made (length (take x.len x.bytes.items)) ≤ v.made.size → k ≡ 0 → new ≡ length v.sent + 1
     → Allows Queue n id me k (λ _. new) (λ _. driver_stored (step n k new 0 none) me new)
 driver_stores n id me v x k new is may not state frame fits where_ what =
@@ -195,7 +197,7 @@ device_looks n id me may not idle bare whole s l wide at _ =
     dite (dec_lt t x)
     (λ some_in. let item = there_below sent t (omega arith) in let d : Sent = item.0 in let slot = r.shows t d (le_refl t) item.1 in let w : TxLog = to_empty v d in let y' : Story = record y { taken = w.taken; emptying = true } in
     let on : sent_of w.taken ≡ take (suc t) sent = sent_of-append v.taken _ ∙ ap (λ l. l ++ d ∷ []) r.taken_is ∙ sym (take_one_more sent t d item.1) in
-    let long : IsFrame d.frame = all_at IsLong sent t d r.frames item.1 in
+    let long : IsMarked d.frame d.mark = all_at MayGo sent t d r.frames item.1 in
     let comparable : IsComparable (sent_of w.taken) v.heard_sent = subst (λ l. IsComparable l v.heard_sent) (sym on) (⊎_elim inr inl (prefix_beside_take v.heard_sent sent (suc t) own.heard_sent)) in (
       w,
       takes_slot (t % n) slot.0,
@@ -314,8 +316,8 @@ device_stores n id me k new may not idle less where_ what =
     subst (λ (z : ℕ × ℕ). Allows Queue n id me z.0 (λ _. z.1) (λ _. device_stored (step n z.0 z.1 0 none) me z.1)) (λ i. (sym where_ i, sym what i)) (stores_device n id me may not idle less)
 
 -- the view after a post
-pub sent_now : (v w w' : TxLog) (x : TxParcel) (frame : List ℕ) → w ≡ to_fill v → w' ≡ with_sent w ((0, x) ∷ []) → take x.len x.bytes.items ≡ frame → w' ≡ record v { filling = false; sent = v.sent ++ record { frame = frame } ∷ [] }
-sent_now v w w' x frame opened stored is = stored ∙ ap (λ (u : TxLog). with_sent u ((0, x) ∷ [])) opened ∙ (λ i. record v { filling = false; sent = v.sent ++ record { frame = is i } ∷ [] })
+pub sent_now : (v w w' : TxLog) (x : TxParcel) (frame : List ℕ) (mark : TxMark) → w ≡ to_fill v → w' ≡ with_sent w ((0, x) ∷ []) → take x.len x.bytes.items ≡ frame → x.mark ≡ mark → w' ≡ record v { filling = false; sent = v.sent ++ record { frame = frame; mark = mark } ∷ [] }
+sent_now v w w' x frame mark opened stored is marked = stored ∙ ap (λ (u : TxLog). with_sent u ((0, x) ∷ [])) opened ∙ (λ i. record v { filling = false; sent = v.sent ++ record { frame = is i; mark = marked i } ∷ [] })
 
 -- the parcel that is lent is the one that was taken out
 pub lent : (i k : ℕ) (x z : TxParcel) (m : M) (more : List (ℕ × TxParcel)) → m.1 ≡ (k, z) ∷ more → m.1 ≡ (i, x) ∷ [] → z ≡ x

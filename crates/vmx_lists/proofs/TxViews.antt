@@ -3,8 +3,8 @@ use Rattle.std.proofs.Common.{◌≡◌, ℕ, ◌+◌, List, length, Bool, true,
 use mathlib.Core.Option.{some}
 use lib.ListN.{get_elem?}
 use Rattle.atomic_table.specs.Table.{State}
-use Rattle.vmx_laps.specs.Views.{total}
-use Rattle.vmx_laps.specs.Views as seats
+use Rattle.vmx_ring_laws.specs.Views.{total}
+use Rattle.vmx_ring_laws.specs.Views as seats
 use Rattle.vmx_ends.specs.declared.made.TxMade.{TxMade}
 use Rattle.vmx_ends.specs.declared.frames.Sent.{Sent}
 use Rattle.vmx_ends.specs.declared.frames.Taken.{Taken}

@@ -1,10 +1,13 @@
 -- What contracts see of the two ends, of a note and of the facts.
 use Rattle.std.specs.Prelude.{ℕ, List, take, false, if◌then◌else◌, None}
-use Rattle.vmx_laps.specs.Keys.{key_of}
+use Rattle.vmx_ring_laws.specs.Keys.{key_of}
 use Rattle.vmx_ends.specs.Receive.{RxDeviceView, RxDriverView, RxNoteView, RxView, posted1, posted2}
+use Rattle.vmx_ends.specs.ReceiveClauses.{no_note}
 use Rattle.vmx_lists.specs.declared.rx.ListRxDriver.{ListRxDriver}
 use Rattle.vmx_lists.specs.declared.rx.ListRxDevice.{ListRxDevice}
+use Rattle.vmx_lists.specs.declared.rx.RxSlip.{RxSlip}
 use Rattle.vmx_lists.specs.declared.rx.ListRxNote.{ListRxNote}
+use Rattle.vmx_lists.specs.declared.rx.ListRxNote.TheVariants.{Told, Nothing}
 use Rattle.vmx_lists.specs.declared.rx.ListRxFacts.{ListRxFacts}
 use Rattle.vmx_lists.specs.declared.rx.log.RxLog.{RxLog}
 use Rattle.vmx_lists.specs.RxRing.{known}
@@ -34,15 +37,19 @@ device_seen key v = record {
 abbrev pub device_view : ListRxDevice → RxDeviceView
 device_view d = device_seen (key_of d.seat.table_id) d.seat.me.0
 
-abbrev pub note_view : ListRxNote → RxNoteView
-note_view n = let v = n.seat.me.0 in record {
-  key = key_of n.seat.table_id;
+abbrev pub slip_view : RxSlip → RxNoteView
+slip_view s = let v = s.seat.me.0 in record {
+  key = key_of s.seat.table_id;
   made = v.made;
   of_driver = v.tells_received;
   frames = if v.tells_received then v.heard_received else v.heard_delivered;
   seen1 = v.told1;
   seen2 = v.told2;
 }
+
+abbrev pub note_view : ListRxNote → RxNoteView
+note_view (Told slip) = slip_view slip
+note_view Nothing = no_note
 
 abbrev pub facts_view : ListRxFacts → RxView
 facts_view f = let v = known f.badge.views in record { key = key_of f.badge.table_id; made = v.made; delivered = v.delivered; received = v.received; refused = v.refused }

@@ -1,10 +1,12 @@
 -- What each step of a receive queue tells.
-use Rattle.std.specs.Prelude.{◌≡◌, ℕ, ◌+◌, ◌/◌, ◌%◌, ◌<◌, ◌≤◌, List, [], ◌∷◌, ◌++◌, length, true, false, take, All}
+use Rattle.std.specs.Prelude.{◌≡◌, ℕ, ◌+◌, ◌%◌, ◌<◌, ◌≤◌, List, [], ◌∷◌, ◌++◌, length, true, false, take, All}
 use mathlib.Core.List.{IsPrefix}
 use Rattle.atomic_table.specs.Table.{Me, Step}
 use Rattle.vmx_ends.specs.declared.frames.Delivery.{Delivery}
+use Rattle.vmx_layout.specs.declared.TheConstants.{COMPLETION_GENERATION_BIT, RX_DESC_GENERATION_BIT}
 use Rattle.vmx_ends.specs.Words.{missed_word}
 use Rattle.vmx_ends.specs.Receive.{used, took1, took2, pieces_of, posted1, posted2}
+use Rattle.vmx_ends.specs.Walk.{further_pieces}
 use Rattle.vmx_ends.specs.Core.{Outcome, takes, misses, outcome}
 use Rattle.vmx_ends.specs.Frames.{IsFrame, IsComparable}
 use Rattle.vmx_ends.specs.ReceiveClauses.{ring_size, IsRefusal}
@@ -23,7 +25,7 @@ abbrev pub going : RxLog → ℕ → RxLog
 going v r = record v { busy = true; seen = r }
 
 abbrev pub refusing : RxLog → ℕ → ℕ → ℕ → List (ℕ × ℕ) → RxLog
-refusing v r ring p looks = record v { seen = r; refused = v.refused ++ (ring, p, missed_word 31 (ring_size v.made ring) p) ∷ []; looks = v.looks ++ looks }
+refusing v r ring p looks = record v { seen = r; refused = v.refused ++ (ring, p, missed_word RX_DESC_GENERATION_BIT (ring_size v.made ring) p) ∷ []; looks = v.looks ++ looks }
 
 abbrev pub LooksBy : Outcome → ℕ → Seated → ℕ → Seated → Type 0
 LooksBy (takes passed end) n m r m' = (x : RxParcel) × (m' ≡ (going m.0 r, (length m.0.delivered % n, x) ∷ []))
@@ -53,7 +55,7 @@ walk_looks (takes passed end) = end.looks
 walk_looks (misses ring p looks) = looks
 
 abbrev pub filled : RxLog → RxParcel → RxLog
-filled v x = record v { busy = false; delivered = v.delivered ++ added (sight ((x.len + 2047) / 4096) v v.seen) x; looks = v.looks ++ walk_looks (sight ((x.len + 2047) / 4096) v v.seen) }
+filled v x = record v { busy = false; delivered = v.delivered ++ added (sight (further_pieces x.len) v v.seen) x; looks = v.looks ++ walk_looks (sight (further_pieces x.len) v v.seen) }
 
 abbrev pub sent_off : RxLog → List (ℕ × RxParcel) → RxLog
 sent_off v [] = v
@@ -66,7 +68,7 @@ abbrev pub opening_it : RxLog → Delivery → RxLog
 opening_it v d = record v { busy = true; received = v.received ++ d ∷ [] }
 
 abbrev pub missing : RxLog → RxLog
-missing v = record v { missed = v.missed ++ (used pieces_of v.received, missed_word 63 (v.made.size1 + v.made.size2) (used pieces_of v.received)) ∷ [] }
+missing v = record v { missed = v.missed ++ (used pieces_of v.received, missed_word COMPLETION_GENERATION_BIT (v.made.size1 + v.made.size2) (used pieces_of v.received)) ∷ [] }
 
 abbrev pub at_rest : RxLog → RxLog
 at_rest v = record v { busy = false }

@@ -9,10 +9,9 @@ use Rattle.vmx_ends.specs.declared.made.RxMade.{RxMade}
 use Rattle.vmx_ends.specs.declared.frames.Delivery.{Delivery}
 use Rattle.vmx_ends.specs.Receive.{used, took1, took2, posted1, posted2}
 use Rattle.vmx_ends.specs.Frames.{IsFrame, longer}
-use Rattle.vmx_ends.specs.ReceiveClauses.{IsRefusal, made_of}
+use Rattle.vmx_ends.specs.ReceiveClauses.{IsRefusal, made_of, no_made}
 use Rattle.vmx_ends.specs.declared.made.RxShape.{RxShape}
-use Rattle.vmx_ends.specs.declared.made.Bodies.TheVariants.{Every}
-use Rattle.vmx_laps.specs.Views.{total}
+use Rattle.vmx_ring_laws.specs.Views.{total}
 use Rattle.vmx_lists.specs.declared.rx.log.RxLog.{RxLog}
 use Rattle.vmx_lists.specs.declared.rx.log.RxParcel.{RxParcel}
 
@@ -110,9 +109,6 @@ pub record Queue (s : State RxParcel RxLog) : Type 0 where
   -- each note that was given is out, or was heard
   pub device_notes : total by_device s.views + story.driver_heard ≡ story.device_given
   pub driver_notes : total by_driver s.views + story.device_heard ≡ story.driver_given
-
-abbrev pub no_made : RxMade
-no_made = record { name = record { guest = 0; activation = 0; queue = 0 }; queues = 0; size1 = 0; size2 = 0; bodies = Every 0; full = true }
 
 abbrev pub nobody : RxLog
 nobody = record {

@@ -3,8 +3,9 @@ use Rattle.std.specs.Prelude.{◌≡◌, ℕ, suc, ◌+◌, ◌%◌, ◌<◌, �
 use mathlib.Core.List.{IsPrefix}
 use Rattle.atomic_table.specs.Table.{Me, Step}
 use Rattle.vmx_ends.specs.declared.frames.Sent.{Sent}
+use Rattle.vmx_layout.specs.declared.TheConstants.{COMPLETION_GENERATION_BIT, TX_DESC_GENERATION_BIT}
 use Rattle.vmx_ends.specs.Words.{missed_word}
-use Rattle.vmx_ends.specs.Frames.{IsFrame, IsComparable, sent_of}
+use Rattle.vmx_ends.specs.Frames.{IsMarked, IsComparable, sent_of}
 use Rattle.vmx_ends.specs.Transmit.{need, descriptors, found_in}
 use Rattle.vmx_lists.specs.declared.tx.log.TxLog.{TxLog}
 use Rattle.vmx_lists.specs.declared.tx.log.TxParcel.{TxParcel}
@@ -23,7 +24,7 @@ driver_opened st m r m' = (length m.0.sent < m.0.reaped + st.slots) × (x : TxPa
 -- a frame goes last in the sent list with the parcel that is put home
 abbrev pub with_sent : TxLog → List (ℕ × TxParcel) → TxLog
 with_sent v [] = v
-with_sent v (c ∷ cs) = record v { filling = false; sent = v.sent ++ record { frame = take c.1.len c.1.bytes.items } ∷ [] }
+with_sent v (c ∷ cs) = record v { filling = false; sent = v.sent ++ record { frame = take c.1.len c.1.bytes.items; mark = c.1.mark } ∷ [] }
 
 abbrev pub driver_stored : Step TxParcel → Seated → ℕ → Seated → Type 0
 driver_stored st m r m' = m' ≡ (with_sent m.0 m.1, [])
@@ -32,7 +33,7 @@ abbrev pub one_reaped : TxLog → TxLog
 one_reaped v = record v { reaped = suc v.reaped }
 
 abbrev pub not_reaped : TxLog → TxLog
-not_reaped v = record v { reap_looks = v.reap_looks ++ (v.reaped, missed_word 63 v.made.size v.reaped) ∷ [] }
+not_reaped v = record v { reap_looks = v.reap_looks ++ (v.reaped, missed_word COMPLETION_GENERATION_BIT v.made.size v.reaped) ∷ [] }
 
 -- r frames are completed: the next one is reaped, or there is none
 abbrev pub driver_looked : Step TxParcel → Seated → ℕ → Seated → Type 0
@@ -44,12 +45,12 @@ abbrev pub to_empty : TxLog → Sent → TxLog
 to_empty v s = record v { emptying = true; taken = v.taken ++ record { sent = s; descriptors = need v.made (length s.frame) } ∷ [] }
 
 abbrev pub not_taken : TxLog → TxLog
-not_taken v = record v { take_looks = v.take_looks ++ (found_in v.taken, missed_word 14 v.made.size (found_in v.taken)) ∷ [] }
+not_taken v = record v { take_looks = v.take_looks ++ (found_in v.taken, missed_word TX_DESC_GENERATION_BIT v.made.size (found_in v.taken)) ∷ [] }
 
 -- r frames are posted: the next one's slot is out with the device, or there is none
 abbrev pub device_looked : Step TxParcel → Seated → ℕ → Seated → Type 0
 device_looked st m r m' =
-    (length m.0.taken < r → (s : Sent) × (x : TxParcel) × (m' ≡ (to_empty m.0 s, (length m.0.taken % st.slots, x) ∷ [])) × Shows s x × IsFrame s.frame × IsComparable (sent_of (to_empty m.0 s).taken) m.0.heard_sent)
+    (length m.0.taken < r → (s : Sent) × (x : TxParcel) × (m' ≡ (to_empty m.0 s, (length m.0.taken % st.slots, x) ∷ [])) × Shows s x × IsMarked s.frame s.mark × IsComparable (sent_of (to_empty m.0 s).taken) m.0.heard_sent)
     × (r ≤ length m.0.taken → (m' ≡ (not_taken m.0, [])) × (length m.0.heard_sent ≤ length m.0.taken))
 
 abbrev pub emptied : TxLog → TxLog

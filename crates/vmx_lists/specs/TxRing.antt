@@ -5,18 +5,20 @@ use mathlib.Core.Option as maybe
 use mathlib.Core.List.{IsPrefix}
 use lib.ListN.{get_elem?}
 use Rattle.atomic_table.specs.Table.{State}
-use Rattle.vmx_laps.specs.Views.{total}
+use Rattle.vmx_ring_laws.specs.Views.{total}
 use Rattle.vmx_ends.specs.declared.made.TxMade.{TxMade}
 use Rattle.vmx_ends.specs.declared.frames.Sent.{Sent}
 use Rattle.vmx_ends.specs.declared.frames.Taken.{Taken}
-use Rattle.vmx_ends.specs.Frames.{IsFrame, longer, larger, sent_of}
+use Rattle.vmx_ends.specs.Frames.{IsMarked, longer, larger, sent_of}
 use Rattle.vmx_ends.specs.Transmit.{descriptors, found_in}
+use Rattle.vmx_ends.specs.TransmitClauses.{no_made}
 use Rattle.vmx_lists.specs.declared.tx.log.TxLog.{TxLog}
 use Rattle.vmx_lists.specs.declared.tx.log.TxParcel.{TxParcel}
 
--- a parcel holds a frame that was sent
-abbrev pub Shows : Sent → TxParcel → Type 0
-Shows s x = take x.len x.bytes.items ≡ s.frame
+-- a parcel holds a frame that was sent, with its mark
+pub record Shows (s : Sent) (x : TxParcel) : Type 0 where
+  pub frame : take x.len x.bytes.items ≡ s.frame
+  pub mark : x.mark ≡ s.mark
 
 abbrev pub AtHome : List (maybe.Option TxParcel) → ℕ → Type 0
 AtHome homes i = (x : TxParcel) × (get_elem? homes i ≡ some (some x))
@@ -35,7 +37,7 @@ pub record Ring (m : TxMade) (n : ℕ) (words : List ℕ) (homes : List (maybe.O
   pub taken_first : length taken ≤ length sent
   pub taken_is : sent_of taken ≡ take (length taken) sent
   pub exact : found_in taken ≡ descriptors m (sent_of taken)
-  pub frames : All (λ s. IsFrame s.frame) sent
+  pub frames : All (λ s. IsMarked s.frame s.mark) sent
   pub within : descriptors m (drop reaped sent) ≤ m.size
   pub room : filling ≡ true → length sent < reaped + n
   pub out : emptying ≡ true → completed < length taken
@@ -110,9 +112,6 @@ pub record Queue (s : State TxParcel TxLog) : Type 0 where
   -- each note that was given is out, or was heard
   pub driver_notes : total by_driver s.views + story.device_heard ≡ story.driver_given
   pub device_notes : total by_device s.views + story.driver_heard ≡ story.device_given
-
-abbrev pub no_made : TxMade
-no_made = record { name = record { guest = 0; activation = 0; queue = 0 }; size = 0; piece = 0; full = true }
 
 -- a seat that has given all that it had to another
 abbrev pub nobody : TxLog

@@ -1,6 +1,6 @@
 //! A frame's bytes into a buffer of fixed size, and out of one. Neither takes memory.
 ghost use Rattle.std.specs.Prelude.{◌≡◌, ◌≤◌, ◌++◌, length, take, drop, vec_len, vec_capacity};
-ghost use Rattle.vmx_ends.specs.Words.{missed_word};
+ghost use Rattle.vmx_io.specs.declared.buffer.TheConstants.{MAX_FRAME};
 
 /// Fills the front of a buffer.
 pub(crate) fn fill(buffer: &mut Vec<u8>, frame: &[u8])
@@ -15,8 +15,8 @@ pub(crate) fn fill(buffer: &mut Vec<u8>, frame: &[u8])
 /// Puts a frame into an empty buffer with room for it.
 pub(crate) fn put(frame: &[u8], into: &mut Vec<u8>)
     requires empty { vec_len into.old ≡ 0 }
-    requires room { 9022 ≤ vec_capacity into.old }
-    requires short { length frame.now ≤ 9022 }
+    requires room { MAX_FRAME ≤ vec_capacity into.old }
+    requires short { length frame.now ≤ MAX_FRAME }
     ensures frame { into.new.items ≡ frame.now }
     ensures room { vec_capacity into.old ≤ vec_capacity into.new }
 {

@@ -82,11 +82,13 @@ impl Fabric for ListFabric {
         name: QueueName,
         size: u32,
         piece: u32,
+        with_data: bool,
     ) -> Result<(ListTxDriver, ListTxDevice), AllocError> {
         let made = TxMade {
             name,
             size,
             piece,
+            with_data,
             full: true,
         };
         tx::make(alloc, made)
@@ -99,6 +101,7 @@ impl Fabric for ListFabric {
         size2: u32,
         bodies: u32,
         queues: u32,
+        with_data: bool,
     ) -> Result<(ListRxDriver, ListRxDevice), AllocError> {
         let shape = RxShape {
             name,
@@ -106,6 +109,7 @@ impl Fabric for ListFabric {
             size1,
             size2,
             bodies,
+            with_data,
         };
         rx::make(alloc, shape)
     }

@@ -7,6 +7,8 @@ ghost use Rattle.vmx_lists.specs.RxSums.{AreSums};
 ghost use Rattle.std.specs.Arc.{arc_value};
 ghost use Rattle.vmx_ends.specs.Receive.{used, took1, took2, pieces_of, posted1, posted2};
 ghost use Rattle.vmx_ends.specs.ReceiveClauses.{made_of};
+ghost use Rattle.vmx_ends.specs.declared.limits.TheConstants.{MAX_BODIES};
+ghost use Rattle.vmx_layout.specs.declared.addresses.TheConstants.{MAX_RING_SIZE};
 ghost use Rattle.vmx_lists.specs.RxRing.{known};
 
 use atomic_table::{Badge, Seat, Table};
@@ -58,18 +60,27 @@ pub struct ListRxDevice {
     ghost rests: { (seat.me.0.delivers ≡ true) × (seat.me.0.receives ≡ false) × (seat.me.0.busy ≡ false) × (seat.me.1 ≡ []) },
     ghost made_is: { seat.me.0.made ≡ made_of shape },
     ghost counts: { (place ≡ length seat.me.0.delivered) × (refusals ≡ length seat.me.0.refused) },
-    ghost kept: { (vec_len ones ≡ shape.size1 + 1) × (vec_len twos ≡ shape.size1 + 1) × (shape.size1 ≤ 4096) × (0 < shape.size2) × (shape.size2 ≤ 4096) × (shape.bodies ≤ 2) },
+    ghost kept: { (vec_len ones ≡ shape.size1 + 1) × (vec_len twos ≡ shape.size1 + 1) × (shape.size1 ≤ MAX_RING_SIZE) × (0 < shape.size2) × (shape.size2 ≤ MAX_RING_SIZE) × (shape.bodies ≤ MAX_BODIES) },
     ghost sums: { AreSums shape.size1 seat.me.0.delivered ones.items twos.items },
     ghost nexts: { (next1 ≡ used took1 seat.me.0.delivered) × (next2 ≡ used took2 seat.me.0.delivered) },
     ghost tells: { (seat.me.0.tells_delivered ≡ false) × (seat.me.0.tells_received ≡ false) },
 }
 
-/// What one end tells the other.
+/// What one end tells the other: the seat in the table that knows it.
 #[derive(Drop)]
-pub struct ListRxNote {
+pub struct RxSlip {
     seat: Seat<RxParcel, RxLog>,
     ghost bare: { seat.me.1 ≡ [] },
     ghost side: { seat.me.0.tells_delivered ≡ not seat.me.0.tells_received },
+}
+
+/// A note of one end, for the other to hear.
+#[derive(Drop)]
+pub enum ListRxNote {
+    /// It tells what its end did.
+    Told { slip: RxSlip },
+    /// It names no table and tells nothing, so that it fits no end over lists.
+    Nothing,
 }
 
 /// What is known of a queue whose ends have met.

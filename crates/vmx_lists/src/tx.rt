@@ -5,6 +5,9 @@
 ghost use Rattle.std.specs.Prelude.{◌≡◌, ℕ, ◌<◌, ◌≤◌, [], length, drop, true, false, not, vec_len};
 ghost use Rattle.std.specs.Arc.{arc_value};
 ghost use Rattle.vmx_ends.specs.Transmit.{descriptors, found_in};
+ghost use Rattle.vmx_ends.specs.Queues.{least_piece};
+ghost use Rattle.vmx_ends.specs.declared.limits.TheConstants.{MAX_PIECE};
+ghost use Rattle.vmx_layout.specs.declared.addresses.TheConstants.{MAX_RING_SIZE};
 ghost use Rattle.vmx_lists.specs.TxRing.{known};
 ghost use Rattle.vmx_lists.specs.TxNeeds.{AreNeeds};
 
@@ -37,7 +40,7 @@ pub struct ListTxDriver {
     used: u32,
     needs: Vec<u32, Global>,
     ghost seated: { seat.table_id ≡ (arc_value table).shared.table_id },
-    ghost sized: { (seat.table_id.slots ≡ made.size) × (seat.table_id.words ≡ 2) × (0 < made.size) × (made.size ≤ 4096) × (576 ≤ made.piece) × (made.piece ≤ 4096) },
+    ghost sized: { (seat.table_id.slots ≡ made.size) × (seat.table_id.words ≡ 2) × (0 < made.size) × (made.size ≤ MAX_RING_SIZE) × (least_piece made.with_data ≤ made.piece) × (made.piece ≤ MAX_PIECE) },
     ghost rests: { (seat.me.0.sends ≡ true) × (seat.me.0.takes ≡ false) × (seat.me.0.filling ≡ false) × (seat.me.1 ≡ []) },
     ghost made_is: { seat.me.0.made ≡ made },
     ghost counts: { (place ≡ length seat.me.0.sent) × (reaped ≡ seat.me.0.reaped) × (used ≡ descriptors made (drop seat.me.0.reaped seat.me.0.sent)) },
@@ -57,7 +60,7 @@ pub struct ListTxDevice {
     completed: u64,
     position: u64,
     ghost seated: { seat.table_id ≡ (arc_value table).shared.table_id },
-    ghost sized: { (seat.table_id.slots ≡ made.size) × (seat.table_id.words ≡ 2) × (0 < made.size) × (made.size ≤ 4096) × (576 ≤ made.piece) × (made.piece ≤ 4096) },
+    ghost sized: { (seat.table_id.slots ≡ made.size) × (seat.table_id.words ≡ 2) × (0 < made.size) × (made.size ≤ MAX_RING_SIZE) × (least_piece made.with_data ≤ made.piece) × (made.piece ≤ MAX_PIECE) },
     ghost rests: { (seat.me.0.takes ≡ true) × (seat.me.0.sends ≡ false) × (seat.me.0.emptying ≡ false) × (seat.me.1 ≡ []) },
     ghost made_is: { seat.me.0.made ≡ made },
     ghost full: { made.full ≡ true },
@@ -65,12 +68,21 @@ pub struct ListTxDevice {
     ghost tells: { (seat.me.0.tells_sent ≡ false) × (seat.me.0.tells_taken ≡ false) },
 }
 
-/// What one end tells the other.
+/// What one end tells the other: the seat in the table that knows it.
 #[derive(Drop)]
-pub struct ListTxNote {
+pub struct TxSlip {
     seat: Seat<TxParcel, TxLog>,
     ghost bare: { seat.me.1 ≡ [] },
     ghost side: { seat.me.0.tells_taken ≡ not seat.me.0.tells_sent },
+}
+
+/// A note of one end, for the other to hear.
+#[derive(Drop)]
+pub enum ListTxNote {
+    /// It tells what its end did.
+    Told { slip: TxSlip },
+    /// It names no table and tells nothing, so that it fits no end over lists.
+    Nothing,
 }
 
 /// What is known of a queue whose ends have met.

@@ -2,18 +2,23 @@
 ghost use Rattle.std.specs.Prelude.{◌≡◌, ◌^◌, ◌+◌, ◌-◌, ◌%◌, ◌<◌, ◌≤◌, [], length, take, vec_len, suc, true, false, slice_index};
 ghost use mathlib.Core.Option.{none};
 ghost use Rattle.atomic_table.specs.Table.{step};
+ghost use Rattle.vmx_layout.specs.declared.TheConstants.{RX_DESC_GENERATION_BIT};
 ghost use Rattle.vmx_ends.specs.Words.{missed_word};
+ghost use Rattle.vmx_io.specs.declared.buffer.TheConstants.{MAX_FRAME};
 ghost use Rattle.vmx_ends.specs.ReceiveClauses.{made_of, ring_size};
+ghost use Rattle.vmx_ends.specs.declared.limits.TheConstants.{MAX_DESCRIPTORS};
+ghost use Rattle.vmx_layout.specs.declared.addresses.TheConstants.{MAX_RING_SIZE};
 ghost use Rattle.vmx_lists.specs.RxPlays.{device_looked};
 ghost use Rattle.vmx_lists.specs.RxSums.{sum_at};
 
 use super::log::{RxFrames, RxLog, RxParcel};
 use super::plays::{DeviceNote, DeviceStore, DeviceTold, HearDriver, LookOne, LookThree, LookTwo};
-use super::{ListRxDevice, ListRxNote};
+use super::{ListRxDevice, ListRxNote, RxSlip};
 use crate::bytes::fill;
 use atomic_table::{Seat, Shared};
 use vmx_ends::walk::{Next, WalkEnd, walk_by};
-use vmx_ends::{Deliver, RxDevice, RxMeta, RxShape};
+use vmx_ends::{BODY_SIZE, Deliver, HEAD_SIZE, RxDevice, RxMeta, RxShape};
+use vmx_layout::RX_DESC_GENERATION_BIT;
 
 /// The load of the received number, for a frame of n + 1 pieces.
 fn look(
@@ -38,18 +43,19 @@ fn look(
 
 /// The look's word where the descriptor of a position is not posted.
 fn missed_descriptor(size: u32, position: u64) -> u64
-    requires { 0 < size }
-    ensures { result ≡ missed_word 31 size position }
+    requires size { 0 < size }
+    ensures word { result ≡ missed_word RX_DESC_GENERATION_BIT size position }
 {
     if (position / size as u64).is_multiple_of(2) {
         0
     } else {
-        1 << 31
+        1 << RX_DESC_GENERATION_BIT
     }
 }
 
+/// The descriptors of a ring, 1 or 2.
 fn size_of(shape: &RxShape, ring: u32) -> u32
-    ensures { result ≡ ring_size (made_of shape.now) ring }
+    ensures size { result ≡ ring_size (made_of shape.now) ring }
 {
     let shape = *shape;
     if ring < 2 { shape.size1 } else { shape.size2 }
@@ -57,8 +63,8 @@ fn size_of(shape: &RxShape, ring: u32) -> u32
 
 /// How many buffers left a supply with the first frames.
 fn sum_of(size: u32, sums: &[u64], received: u64) -> u64
-    requires { (length sums.now ≡ size + 1) × (size ≤ 4096) }
-    ensures { result ≡ sum_at size sums.now received }
+    requires sums { (length sums.now ≡ size + 1) × (size ≤ MAX_RING_SIZE) }
+    ensures sum { result ≡ sum_at size sums.now received }
 {
     if received == 0 {
         return 0;
@@ -66,9 +72,10 @@ fn sum_of(size: u32, sums: &[u64], received: u64) -> u64
     sums[((received - 1) % (size as u64 + 1)) as usize]
 }
 
-/// Puts a frame into a parcel.
+/// Puts a frame and its meta into a parcel.
 fn pack(parcel: &mut RxParcel, frame: &[u8], meta: &RxMeta, passed: u64, pieces: u64)
-    requires { (length frame.now ≤ 9022) × (passed ≤ 13) × (pieces ≤ 3) }
+    requires fits { length frame.now ≤ MAX_FRAME }
+    requires few { passed + pieces ≤ MAX_DESCRIPTORS }
     ensures frame { take parcel.new.len parcel.new.bytes.items ≡ frame.now }
     ensures len { parcel.new.len ≡ length frame.now }
     ensures meta { parcel.new.meta ≡ meta.now }
@@ -89,7 +96,7 @@ impl RxDevice for ListRxDevice {
     ghost view = { device_view };
 
     fn deliver(&mut self, frame: &[u8], meta: &RxMeta) -> Deliver {
-        let n = ((frame.len() + 2047) / 4096) as u32;
+        let n = (frame.len() as u32 + (BODY_SIZE - HEAD_SIZE - 1)) / BODY_SIZE;
         let shared = &self.table.shared;
         let received = look(shared, &mut self.seat, n);
         let posted1 = self.shape.size1 as u64
@@ -140,15 +147,22 @@ impl RxDevice for ListRxDevice {
 
     fn note(&mut self) -> ListRxNote {
         let shared = &self.table.shared;
-        ListRxNote {
-            seat: shared.split_seat::<DeviceNote>(&mut self.seat),
+        ListRxNote::Told {
+            slip: RxSlip {
+                seat: shared.split_seat::<DeviceNote>(&mut self.seat),
+            },
         }
     }
 
     fn hear(&mut self, note: ListRxNote) {
-        let ListRxNote { seat } = note;
-        let shared = &self.table.shared;
-        shared.join_seat::<HearDriver>(&mut self.seat, seat);
-        shared.load::<DeviceTold>(&mut self.seat, 0);
+        match note {
+            ListRxNote::Told { slip } => {
+                let RxSlip { seat } = slip;
+                let shared = &self.table.shared;
+                shared.join_seat::<HearDriver>(&mut self.seat, seat);
+                shared.load::<DeviceTold>(&mut self.seat, 0);
+            }
+            ListRxNote::Nothing => unreachable!(),
+        }
     }
 }

@@ -1,12 +1,15 @@
 //! The driver's end: it receives frames, and passes notes.
 ghost use Rattle.std.specs.Prelude.{◌≡◌, ◌^◌, ◌<◌, ◌≤◌, length, take, true, false, vec_len, vec_capacity};
+ghost use Rattle.vmx_layout.specs.declared.TheConstants.{COMPLETION_GENERATION_BIT};
 ghost use Rattle.vmx_ends.specs.Words.{missed_word};
+ghost use Rattle.vmx_io.specs.declared.buffer.TheConstants.{MAX_FRAME};
 
 use super::log::RxParcel;
 use super::plays::{DriverLook, DriverNote, DriverStore, DriverTold, HearDevice};
-use super::{ListRxDriver, ListRxNote};
+use super::{ListRxDriver, ListRxNote, RxSlip};
 use crate::bytes::put;
 use vmx_ends::{Receive, RxDriver, RxNote};
+use vmx_layout::COMPLETION_GENERATION_BIT;
 
 impl RxNote for ListRxNote {
     ghost use Rattle.vmx_lists.specs.RxEnds.{note_view};
@@ -17,7 +20,7 @@ impl RxNote for ListRxNote {
 /// Puts the frame of a parcel into an empty buffer.
 fn unpack(parcel: &RxParcel, into: &mut Vec<u8>)
     requires empty { vec_len into.old ≡ 0 }
-    requires room { 9022 ≤ vec_capacity into.old }
+    requires room { MAX_FRAME ≤ vec_capacity into.old }
     ensures frame { into.new.items ≡ take parcel.now.len parcel.now.bytes.items }
     ensures room { vec_capacity into.old ≤ vec_capacity into.new }
 {
@@ -27,13 +30,13 @@ fn unpack(parcel: &RxParcel, into: &mut Vec<u8>)
 
 /// The look's word where the completion of a position is not there.
 fn missed_completion(size: u64, position: u64) -> u64
-    requires { 0 < size }
-    ensures { result ≡ missed_word 63 size position }
+    requires size { 0 < size }
+    ensures word { result ≡ missed_word COMPLETION_GENERATION_BIT size position }
 {
     if (position / size).is_multiple_of(2) {
         0
     } else {
-        1 << 63
+        1 << COMPLETION_GENERATION_BIT
     }
 }
 
@@ -72,15 +75,22 @@ impl RxDriver for ListRxDriver {
 
     fn note(&mut self) -> ListRxNote {
         let shared = &self.table.shared;
-        ListRxNote {
-            seat: shared.split_seat::<DriverNote>(&mut self.seat),
+        ListRxNote::Told {
+            slip: RxSlip {
+                seat: shared.split_seat::<DriverNote>(&mut self.seat),
+            },
         }
     }
 
     fn hear(&mut self, note: ListRxNote) {
-        let ListRxNote { seat } = note;
-        let shared = &self.table.shared;
-        shared.join_seat::<HearDevice>(&mut self.seat, seat);
-        shared.load::<DriverTold>(&mut self.seat, 0);
+        match note {
+            ListRxNote::Told { slip } => {
+                let RxSlip { seat } = slip;
+                let shared = &self.table.shared;
+                shared.join_seat::<HearDevice>(&mut self.seat, seat);
+                shared.load::<DriverTold>(&mut self.seat, 0);
+            }
+            ListRxNote::Nothing => unreachable!(),
+        }
     }
 }

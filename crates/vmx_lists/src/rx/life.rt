@@ -1,6 +1,8 @@
 //! How the two ends of a receive queue are made, and how they meet.
 ghost use Rattle.std.specs.Prelude.{◌≡◌, ◌<◌, ◌≤◌, IfOk, vec_len};
 ghost use Rattle.vmx_ends.specs.ReceiveClauses.{AreNew, AreEven, made_of, facts_of, IsOrdered};
+ghost use Rattle.vmx_ends.specs.declared.limits.TheConstants.{MAX_BODIES};
+ghost use Rattle.vmx_layout.specs.declared.addresses.TheConstants.{MAX_RING_SIZE};
 ghost use Rattle.vmx_lists.specs.RxEnds.{driver_view, device_view, facts_view};
 
 use super::log::RxParcel;
@@ -8,18 +10,22 @@ use super::plays::{Apart, Met, Together};
 use super::{ListRxDevice, ListRxDriver, ListRxFacts, Shelf};
 use std::alloc::{AllocError, Global};
 use std::sync::Arc;
-use vmx_ends::{RxMeta, RxShape};
+use vmx_ends::{MAX_FRAME, RxMeta, RxShape};
 
 /// Buffers for as many frames as ring 1 has descriptors.
 fn parcels(alloc: Global, count: u32) -> Result<Vec<RxParcel>, AllocError>
-    ensures { IfOk result (λ v. vec_len v ≡ count) }
+    ensures count { IfOk result (λ v. vec_len v ≡ count) }
 {
     let mut parcels = Vec::new(alloc);
     for _ in 0..count {
         parcels.push(RxParcel {
-            bytes: Vec::from_elem(alloc, 0u8, 9022)?,
+            bytes: Vec::from_elem(alloc, 0u8, MAX_FRAME)?,
             len: 0,
-            meta: RxMeta { hash: 0, kind: 0 },
+            meta: RxMeta {
+                hash: 0,
+                kind: 0,
+                tci: None,
+            },
             passed: 0,
             pieces: 0,
         })?;
@@ -27,10 +33,11 @@ fn parcels(alloc: Global, count: u32) -> Result<Vec<RxParcel>, AllocError>
     Ok(parcels)
 }
 
-/// The two ends of a receive queue. Both rings are full. It takes 9,022 bytes a descriptor of ring 1.
+/// The two ends of a receive queue. Both rings are full. It takes the bytes of the longest frame for each
+/// descriptor of ring 1.
 pub fn make(alloc: Global, shape: RxShape) -> Result<(ListRxDriver, ListRxDevice), AllocError>
-    requires sizes { (0 < shape.size1) × (shape.size1 ≤ 4096) × (0 < shape.size2) × (shape.size2 ≤ 4096) }
-    requires bodies { shape.bodies ≤ 2 }
+    requires sizes { (0 < shape.size1) × (shape.size1 ≤ MAX_RING_SIZE) × (0 < shape.size2) × (shape.size2 ≤ MAX_RING_SIZE) }
+    requires bodies { shape.bodies ≤ MAX_BODIES }
     ensures made { IfOk result (λ p. AreNew (made_of shape) (driver_view p.0) (device_view p.1)) }
 {
     let parcels = parcels(alloc, shape.size1)?;

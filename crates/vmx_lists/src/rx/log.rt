@@ -1,12 +1,14 @@
 //! The rule of a receive queue's table, what its seats know, and what its slots hold.
-ghost use Rattle.std.specs.Prelude.{◌≡◌, ◌≤◌, vec_len};
+ghost use Rattle.std.specs.Prelude.{◌≡◌, ◌≤◌, ◌+◌, vec_len};
+ghost use Rattle.vmx_ends.specs.declared.limits.TheConstants.{MAX_DESCRIPTORS};
+ghost use Rattle.vmx_io.specs.declared.buffer.TheConstants.{MAX_FRAME};
 
 use atomic_table::TableRule;
 use std::alloc::Global;
 use std::collections::LinkedList;
-use vmx_ends::{Delivery, RxMade, RxMeta, RxShape};
+use vmx_ends::{Delivery, MAX_FRAME, RxMade, RxMeta, RxShape};
 
-/// A frame on its way, in a buffer of 9,022 bytes that is never given back.
+/// A frame on its way with its meta, in a buffer for the longest frame that is never given back.
 #[derive(Drop)]
 pub struct RxParcel {
     pub bytes: Vec<u8, Global>,
@@ -15,9 +17,9 @@ pub struct RxParcel {
     /// Bodies that were passed over before the frame's head, and its pieces.
     pub passed: u64,
     pub pieces: u64,
-    ghost room: { vec_len bytes ≡ 9022 },
-    ghost within: { len ≤ 9022 },
-    ghost few: { (passed ≤ 13) × (pieces ≤ 3) },
+    ghost room: { vec_len bytes ≡ MAX_FRAME },
+    ghost within: { len ≤ MAX_FRAME },
+    ghost few: { passed + pieces ≤ MAX_DESCRIPTORS },
 }
 
 /// What a seat knows. No value of it is made.

@@ -1,18 +1,21 @@
 //! The device's end: it takes frames and completes them, and passes notes.
 ghost use Rattle.std.specs.Prelude.{◌≡◌, ◌^◌, ◌+◌, ◌%◌, ◌<◌, ◌≤◌, length, take, true, false, vec_len, vec_capacity};
+ghost use Rattle.vmx_layout.specs.declared.TheConstants.{TX_DESC_GENERATION_BIT};
 ghost use Rattle.vmx_ends.specs.Words.{missed_word};
+ghost use Rattle.vmx_io.specs.declared.buffer.TheConstants.{MAX_FRAME};
 
 use super::driver::need_of;
 use super::log::TxParcel;
 use super::plays::{DeviceLook, DeviceNote, DeviceReturns, DeviceStore, DeviceTold, HearDriver};
-use super::{ListTxDevice, ListTxNote};
+use super::{ListTxDevice, ListTxNote, TxSlip};
 use crate::bytes::put;
 use vmx_ends::{Take, TxDevice};
+use vmx_layout::TX_DESC_GENERATION_BIT;
 
 /// Puts the frame of a parcel into an empty buffer.
 fn unpack(parcel: &TxParcel, into: &mut Vec<u8>)
     requires empty { vec_len into.old ≡ 0 }
-    requires room { 9022 ≤ vec_capacity into.old }
+    requires room { MAX_FRAME ≤ vec_capacity into.old }
     ensures frame { into.new.items ≡ take parcel.now.len parcel.now.bytes.items }
     ensures room { vec_capacity into.old ≤ vec_capacity into.new }
 {
@@ -22,13 +25,13 @@ fn unpack(parcel: &TxParcel, into: &mut Vec<u8>)
 
 /// The look's word where the descriptor of a position is not there.
 fn missed_descriptor(size: u32, position: u64) -> u64
-    requires { 0 < size }
-    ensures { result ≡ missed_word 14 size position }
+    requires size { 0 < size }
+    ensures word { result ≡ missed_word TX_DESC_GENERATION_BIT size position }
 {
     if (position / size as u64).is_multiple_of(2) {
         0
     } else {
-        1 << 14
+        1 << TX_DESC_GENERATION_BIT
     }
 }
 
@@ -49,13 +52,14 @@ impl TxDevice for ListTxDevice {
         }
         let index = (self.place % self.made.size as u64) as usize;
         let parcel = self.seat.slot_mut(shared, index);
+        let mark = parcel.mark;
         unpack(parcel, into);
         let need = need_of(&self.made, into.as_slice().len());
         shared.load::<DeviceReturns>(&mut self.seat, 0);
         let place = self.place;
         self.place += 1;
         self.position += need as u64;
-        Take::Frame { place }
+        Take::Frame { place, mark }
     }
 
     fn complete(&mut self) {
@@ -66,15 +70,22 @@ impl TxDevice for ListTxDevice {
 
     fn note(&mut self) -> ListTxNote {
         let shared = &self.table.shared;
-        ListTxNote {
-            seat: shared.split_seat::<DeviceNote>(&mut self.seat),
+        ListTxNote::Told {
+            slip: TxSlip {
+                seat: shared.split_seat::<DeviceNote>(&mut self.seat),
+            },
         }
     }
 
     fn hear(&mut self, note: ListTxNote) {
-        let ListTxNote { seat } = note;
-        let shared = &self.table.shared;
-        shared.join_seat::<HearDriver>(&mut self.seat, seat);
-        shared.load::<DeviceTold>(&mut self.seat, 0);
+        match note {
+            ListTxNote::Told { slip } => {
+                let TxSlip { seat } = slip;
+                let shared = &self.table.shared;
+                shared.join_seat::<HearDriver>(&mut self.seat, seat);
+                shared.load::<DeviceTold>(&mut self.seat, 0);
+            }
+            ListTxNote::Nothing => unreachable!(),
+        }
     }
 }

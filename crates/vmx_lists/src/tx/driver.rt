@@ -1,13 +1,18 @@
 //! The driver's end: it posts frames and reaps them, and passes notes.
-ghost use Rattle.std.specs.Prelude.{◌≡◌, ◌^◌, ◌+◌, ◌%◌, ◌<◌, ◌≤◌, length, true, false, vec_len, take};
+ghost use Rattle.std.specs.Prelude.{◌≡◌, ◌^◌, ◌+◌, ◌-◌, ◌/◌, ◌%◌, ◌<◌, ◌≤◌, length, true, false, vec_len, take};
 ghost use Rattle.vmx_ends.specs.Transmit.{need};
+ghost use Rattle.vmx_ends.specs.Queues.{least_piece};
+ghost use Rattle.vmx_io.specs.declared.buffer.TheConstants.{MAX_FRAME};
+ghost use Rattle.vmx_ends.specs.declared.limits.TheConstants.{MIN_PIECE, MAX_PIECE, MAX_DESCRIPTORS};
+ghost use Rattle.vmx_layout.specs.declared.TheConstants.{COMPLETION_GENERATION_BIT};
 ghost use Rattle.vmx_ends.specs.Words.{missed_word};
 
 use super::log::TxParcel;
 use super::plays::{DriverLook, DriverNote, DriverOpens, DriverStore, DriverTold, HearDevice};
-use super::{ListTxDriver, ListTxNote};
+use super::{ListTxDriver, ListTxNote, TxSlip};
 use crate::bytes::fill;
-use vmx_ends::{Post, Reap, TxDriver, TxMade, TxNote};
+use vmx_ends::{Post, Reap, TxDriver, TxMade, TxMark, TxNote};
+use vmx_layout::{COMPLETION_GENERATION_BIT, DATA_ENTRY_SIZE};
 
 impl TxNote for ListTxNote {
     ghost use Rattle.vmx_lists.specs.TxEnds.{note_view};
@@ -15,36 +20,53 @@ impl TxNote for ListTxNote {
     ghost view = { note_view };
 }
 
-/// How many descriptors a frame of so many bytes needs.
-pub(crate) fn need_of(made: &TxMade, bytes: usize) -> u32
-    requires piece { (576 ≤ made.now.piece) × (made.now.piece ≤ 4096) }
-    requires bytes { bytes ≤ 9022 }
-    ensures need { result ≡ need made.now bytes }
-    ensures few { result ≤ 16 }
+/// How many pieces of this size so many bytes have.
+fn begun_in(bytes: usize, piece: u32) -> u32
+    requires piece { (MIN_PIECE ≤ piece) × (piece ≤ MAX_PIECE) }
+    requires bytes { bytes ≤ MAX_FRAME }
+    ensures begun { result ≡ (bytes + (piece - 1)) / piece }
+    ensures few { result ≤ MAX_DESCRIPTORS }
 {
-    let made = *made;
-    (bytes as u32 + (made.piece - 1)) / made.piece
+    (bytes as u32 + (piece - 1)) / piece
 }
 
-/// Puts a frame into a parcel.
-fn pack(parcel: &mut TxParcel, frame: &[u8])
-    requires { length frame.now ≤ 9022 }
+/// How many descriptors a frame of so many bytes needs: one for each piece, at most 16.
+#[tactic(auto, using(vmx_ends::specs::TransmitCounts::need_few))]
+pub(crate) fn need_of(made: &TxMade, bytes: usize) -> u32
+    requires piece { (least_piece made.now.with_data ≤ made.now.piece) × (made.now.piece ≤ MAX_PIECE) }
+    requires bytes { bytes ≤ MAX_FRAME }
+    ensures need { result ≡ need made.now bytes }
+    ensures few { result ≤ MAX_DESCRIPTORS }
+{
+    let made = *made;
+    if made.with_data {
+        1 + begun_in(bytes.saturating_sub(DATA_ENTRY_SIZE as usize), made.piece)
+    } else {
+        begun_in(bytes, made.piece)
+    }
+}
+
+/// Puts a frame and its mark into a parcel.
+fn pack(parcel: &mut TxParcel, frame: &[u8], mark: &TxMark)
+    requires fits { length frame.now ≤ MAX_FRAME }
     ensures frame { take parcel.new.len parcel.new.bytes.items ≡ frame.now }
     ensures len { parcel.new.len ≡ length frame.now }
+    ensures mark { parcel.new.mark ≡ mark.now }
 {
     fill(&mut parcel.bytes, frame);
     parcel.len = frame.len();
+    parcel.mark = *mark;
 }
 
 /// The look's word where the completion of a position is not there.
 fn missed_completion(size: u32, position: u64) -> u64
-    requires { 0 < size }
-    ensures { result ≡ missed_word 63 size position }
+    requires size { 0 < size }
+    ensures word { result ≡ missed_word COMPLETION_GENERATION_BIT size position }
 {
     if (position / size as u64).is_multiple_of(2) {
         0
     } else {
-        1 << 63
+        1 << COMPLETION_GENERATION_BIT
     }
 }
 
@@ -55,7 +77,7 @@ impl TxDriver for ListTxDriver {
 
     ghost view = { driver_view };
 
-    fn post(&mut self, frame: &[u8]) -> Post {
+    fn post(&mut self, frame: &[u8], mark: &TxMark) -> Post {
         let need = need_of(&self.made, frame.len());
         let used = self.used;
         if self.made.size < used + need {
@@ -64,7 +86,7 @@ impl TxDriver for ListTxDriver {
         let shared = &self.table.shared;
         shared.load::<DriverOpens>(&mut self.seat, 1);
         let index = (self.place % self.made.size as u64) as usize;
-        pack(self.seat.slot_mut(shared, index), frame);
+        pack(self.seat.slot_mut(shared, index), frame, mark);
         shared.store::<DriverStore>(&mut self.seat, 0, self.place + 1);
         let place = self.place;
         self.needs[index] = need;
@@ -90,15 +112,22 @@ impl TxDriver for ListTxDriver {
 
     fn note(&mut self) -> ListTxNote {
         let shared = &self.table.shared;
-        ListTxNote {
-            seat: shared.split_seat::<DriverNote>(&mut self.seat),
+        ListTxNote::Told {
+            slip: TxSlip {
+                seat: shared.split_seat::<DriverNote>(&mut self.seat),
+            },
         }
     }
 
     fn hear(&mut self, note: ListTxNote) {
-        let ListTxNote { seat } = note;
-        let shared = &self.table.shared;
-        shared.join_seat::<HearDevice>(&mut self.seat, seat);
-        shared.load::<DriverTold>(&mut self.seat, 0);
+        match note {
+            ListTxNote::Told { slip } => {
+                let TxSlip { seat } = slip;
+                let shared = &self.table.shared;
+                shared.join_seat::<HearDevice>(&mut self.seat, seat);
+                shared.load::<DriverTold>(&mut self.seat, 0);
+            }
+            ListTxNote::Nothing => unreachable!(),
+        }
     }
 }

@@ -1,6 +1,9 @@
 //! How the two ends of a transmit queue are made, and how they meet.
 ghost use Rattle.std.specs.Prelude.{◌≡◌, ◌<◌, ◌≤◌, true, IfOk, length, vec_len};
 ghost use Rattle.vmx_ends.specs.TransmitClauses.{AreNew, IsIdle, AreEven, facts_of, IsOrdered};
+ghost use Rattle.vmx_ends.specs.Queues.{least_piece};
+ghost use Rattle.vmx_ends.specs.declared.limits.TheConstants.{MAX_PIECE};
+ghost use Rattle.vmx_layout.specs.declared.addresses.TheConstants.{MAX_RING_SIZE};
 ghost use Rattle.vmx_lists.specs.TxEnds.{driver_view, device_view, facts_view};
 
 use super::log::TxParcel;
@@ -8,26 +11,28 @@ use super::plays::{Apart, Met, Together};
 use super::{ListTxDevice, ListTxDriver, ListTxFacts, Shelf};
 use std::alloc::{AllocError, Global};
 use std::sync::Arc;
-use vmx_ends::TxMade;
+use vmx_ends::{MAX_FRAME, TxMade, TxMark};
 
 /// Buffers for as many frames as there are descriptors.
 fn parcels(alloc: Global, count: u32) -> Result<Vec<TxParcel>, AllocError>
-    ensures { IfOk result (λ v. vec_len v ≡ count) }
+    ensures count { IfOk result (λ v. vec_len v ≡ count) }
 {
     let mut parcels = Vec::new(alloc);
     for _ in 0..count {
         parcels.push(TxParcel {
-            bytes: Vec::from_elem(alloc, 0u8, 9022)?,
+            bytes: Vec::from_elem(alloc, 0u8, MAX_FRAME)?,
             len: 0,
+            mark: TxMark::plain(),
         })?;
     }
     Ok(parcels)
 }
 
-/// The two ends of a transmit queue. All descriptors are free. It takes 9,022 bytes a descriptor.
+/// The two ends of a transmit queue. All descriptors are free. It takes the bytes of the longest frame for each
+/// descriptor.
 pub fn make(alloc: Global, made: TxMade) -> Result<(ListTxDriver, ListTxDevice), AllocError>
-    requires size { (0 < made.size) × (made.size ≤ 4096) }
-    requires piece { (576 ≤ made.piece) × (made.piece ≤ 4096) }
+    requires size { (0 < made.size) × (made.size ≤ MAX_RING_SIZE) }
+    requires piece { (least_piece made.with_data ≤ made.piece) × (made.piece ≤ MAX_PIECE) }
     requires full { made.full ≡ true }
     ensures made { IfOk result (λ p. AreNew made (driver_view p.0) (device_view p.1)) }
 {

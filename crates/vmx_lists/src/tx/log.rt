@@ -1,18 +1,20 @@
 //! The rule of a transmit queue's table, what its seats know, and what its slots hold.
 ghost use Rattle.std.specs.Prelude.{◌≡◌, ◌≤◌, vec_len};
+ghost use Rattle.vmx_io.specs.declared.buffer.TheConstants.{MAX_FRAME};
 
 use atomic_table::TableRule;
 use std::alloc::Global;
 use std::collections::LinkedList;
-use vmx_ends::{Sent, Taken, TxMade};
+use vmx_ends::{MAX_FRAME, Sent, Taken, TxMade, TxMark};
 
-/// A frame on its way, in a buffer of 9,022 bytes that is never given back.
+/// A frame on its way with its mark, in a buffer for the longest frame that is never given back.
 #[derive(Drop)]
 pub struct TxParcel {
     pub bytes: Vec<u8, Global>,
     pub len: usize,
-    ghost room: { vec_len bytes ≡ 9022 },
-    ghost within: { len ≤ 9022 },
+    pub mark: TxMark,
+    ghost room: { vec_len bytes ≡ MAX_FRAME },
+    ghost within: { len ≤ MAX_FRAME },
 }
 
 /// What a seat knows. No value of it is made.

@@ -1,11 +1,12 @@
 use Rattle.std.proofs.Common.{◌≡◌, ◌≤◌, ◌+◌, ◌*◌, length, true, vec_capacity}
 use Rattle.vmx_ends.specs.Receive.{used, pieces_of, consumed1, consumed2}
 use Rattle.vmx_lists.specs.RxEnds.{driver_view, device_view}
+use Rattle.vmx_io.specs.declared.buffer.TheConstants.{MAX_FRAME}
 use Rattle.vmx_lists.proofs.tests.carries_all.Given as goal
 
 abbrev pub invariant-loop-place : goal.invariant-loop-place
 invariant-loop-place l = record {
-  room : 9022 ≤ vec_capacity l.into;
+  room : MAX_FRAME ≤ vec_capacity l.into;
   full : (device_view l.device).made.full ≡ true;
   driver_full : (driver_view l.driver).made.full ≡ true;
   delivered : length (device_view l.device).delivered ≤ 1000 + l.place;

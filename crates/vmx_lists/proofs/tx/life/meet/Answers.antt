@@ -1,5 +1,5 @@
 use Rattle.std.proofs.Common.{rules, ap, ◌∙◌}
-use Rattle.vmx_laps.specs.Keys.{same_table}
+use Rattle.vmx_ring_laws.specs.Keys.{same_table}
 use Rattle.vmx_lists.proofs.TxParts.{meets, tells_met}
 use Rattle.vmx_lists.proofs.tx.life.meet.Goals as goal
 

@@ -6,7 +6,7 @@ use Rattle.vmx_ends.specs.Transmit.{need, found_in}
 use Rattle.vmx_lists.specs.declared.tx.log.TxLog.{TxLog}
 use Rattle.vmx_lists.specs.declared.tx.log.TxParcel.{TxParcel}
 use Rattle.vmx_lists.specs.TxPlays.{to_empty, emptied}
-use Rattle.vmx_lists.proofs.TxCounts.{found-append}
+use Rattle.vmx_ends.specs.TransmitCounts.{found-append}
 use Rattle.vmx_lists.proofs.TxSteps.{device_looks, device_returns, lent}
 use Rattle.vmx_lists.proofs.tx.device.ListTxDeviceTxDevice.take.Goals as goal
 
@@ -29,14 +29,14 @@ pub need_of-need-requires-clause-bytes : goal.need_of-need-requires-clause-bytes
 need_of-need-requires-clause-bytes c = let me = c.args.self.now in let v = me.seat.me.0 in let p = me.counts.0 in let f = c.if-sent-self.false in
     let less : length v.taken < c.load-sent.result = omega arith in let told = c.load-sent.ensures.2.0 less in
     let same = lent _ _ _ _ c.load-sent.new.seat.me _ c.slot_mut-parcel.ensures.value (ap (λ m. m.1) told.2) in
-    let got : c.unpack.new.into.items ≡ told.0.frame = c.unpack.ensures.frame ∙ ap (λ (x : TxParcel). take x.len x.bytes.items) same ∙ told.3 in
-    let long = ap length got in let most = told.4.1 in omega arith
+    let got : c.unpack.new.into.items ≡ told.0.frame = c.unpack.ensures.frame ∙ ap (λ (x : TxParcel). take x.len x.bytes.items) same ∙ told.3.frame in
+    let long = ap length got in let most = told.4.0.1 in omega arith
 
 pub invariant_of-self-2-clause-counts : goal.invariant_of-self-2-clause-counts
 invariant_of-self-2-clause-counts c = let me = c.args.self.now in let v = me.seat.me.0 in let p0 = me.counts.0 in let p2 = me.counts.2 in let f = c.if-sent-self.false in
     let less : length v.taken < c.load-sent.result = omega arith in let told = c.load-sent.ensures.2.0 less in let t : Taken = record { sent = told.0; descriptors = need v.made (length told.0.frame) } in
     let same = lent _ _ _ _ c.load-sent.new.seat.me _ c.slot_mut-parcel.ensures.value (ap (λ m. m.1) told.2) in
-    let got : c.unpack.new.into.items ≡ told.0.frame = c.unpack.ensures.frame ∙ ap (λ (x : TxParcel). take x.len x.bytes.items) same ∙ told.3 in
+    let got : c.unpack.new.into.items ≡ told.0.frame = c.unpack.ensures.frame ∙ ap (λ (x : TxParcel). take x.len x.bytes.items) same ∙ told.3.frame in
     let now = ap (λ m. m.0) c.load-self.ensures.2 ∙ ap (λ m. emptied m.0) told.2 in
     let long = ap (λ (z : TxLog). length z.taken) now ∙ length-append v.taken (t ∷ []) in let sum = ap (λ (z : TxLog). found_in z.taken) now ∙ found-append v.taken (t ∷ []) in
     let e : c.need_of-need.result ≡ need v.made (length told.0.frame) = c.need_of-need.ensures.need ∙ ap₂ (λ (z : TxMade) (l : List ℕ). need z (length l)) (sym me.made_is) (c.as_slice.ensures.value ∙ got) in

@@ -1,14 +1,15 @@
 use Rattle.std.proofs.Common.{rules, ◌≡◌, ◌<◌, ℕ, ◌%◌, List, length, get_or, drop, sym, ap, ◌∙◌, arith, subst, mod-lt}
 use lib.ListN.{get_elem?}
-use Rattle.vmx_laps.specs.Lists.{there_below}
-use Rattle.vmx_laps.specs.Keys.{key_of}
+use Rattle.vmx_ring_laws.specs.Lists.{there_below}
+use Rattle.vmx_ring_laws.specs.Keys.{key_of}
 use Rattle.vmx_ends.specs.declared.frames.Sent.{Sent}
 use Rattle.vmx_ends.specs.declared.made.TxMade.{TxMade}
 use Rattle.vmx_ends.specs.Transmit.{need, descriptors}
 use Rattle.vmx_lists.specs.declared.tx.log.TxLog.{TxLog}
 use Rattle.vmx_lists.specs.TxNeeds.{AreNeeds}
 use Rattle.vmx_lists.specs.TxEnds.{driver_seen}
-use Rattle.vmx_lists.proofs.TxCounts.{drop_one, same_default}
+use Rattle.vmx_ends.specs.TransmitCounts.{drop_one}
+use Rattle.vmx_lists.proofs.TxCounts.{same_default}
 use Rattle.vmx_lists.proofs.TxSteps.{driver_looks}
 use Rattle.vmx_lists.proofs.tx.driver.ListTxDriverTxDriver.reap.Goals as goal
 
