@@ -1,0 +1,6 @@
+mod NeededLaws
+mod RxSteps
+mod RxWays
+mod SupplyLaws
+mod WalkOfSupplies
+mod TxEvents

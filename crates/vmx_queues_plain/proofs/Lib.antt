@@ -1,5 +1,0 @@
-mod NeededLaws
-mod RxSteps
-mod RxWays
-mod SupplyLaws
-mod WalkOfSupplies

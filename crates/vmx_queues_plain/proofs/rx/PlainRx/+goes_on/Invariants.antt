@@ -1,4 +1,0 @@
-use Rattle.vmx_queues_plain.proofs.rx.PlainRx.+goes_on.Given as goal
-
-abbrev pub decreases-goes_on : goal.decreases-goes_on
-decreases-goes_on l = l.further
