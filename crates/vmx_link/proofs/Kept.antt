@@ -6,7 +6,7 @@ use mathlib.Core.Option.{some}
 use lib.ListN.{get_elem?}
 use Rattle.std.specs.Prelude.{Option}
 use Rattle.atomic_table.specs.Table.{State}
-use Rattle.vmx_laps.specs.Lists.{prefix_longer, take_one_more}
+use Rattle.vmx_ring_laws.specs.Lists.{prefix_longer, take_one_more}
 use Rattle.vmx_ends.specs.declared.packet.Packet.{Packet}
 use Rattle.vmx_link.specs.declared.known.Known.{Known}
 use Rattle.vmx_link.specs.Seats.{nobody}

@@ -1,5 +1,5 @@
 -- A look of either end keeps the rule: it takes a slot out, or finds the ring full or empty.
-use Rattle.std.proofs.Common.{◌≡◌, ℕ, ◌+◌, ◌*◌, ◌/◌, ◌%◌, List, [], ◌∷◌, ◌++◌, length, take, slice_set, slice_index, true, false, true≢false, sym, refl, ap, ◌∙◌, subst, arith, length-take-le}
+use Rattle.std.proofs.Common.{◌≡◌, ℕ, suc, ◌+◌, ◌*◌, ◌/◌, ◌%◌, List, [], ◌∷◌, ◌++◌, length, take, slice_set, slice_index, true, false, true≢false, sym, refl, ap, ◌∙◌, subst, arith, length-take-le}
 use Rattle.std.proofs.lemmas.List.{set-get_or}
 use mathlib.Core.Logic.{dite}
 use mathlib.Core.Option.{none}
@@ -7,9 +7,9 @@ use native.Mathlib.Decide.{dec_lt}
 use native.Mathlib.Nat.{add-mod_right, add-div_right}
 use Rattle.std.specs.Prelude.{Option, Some, None}
 use Rattle.atomic_table.specs.Table.{step, keeps, takes, Allows}
-use Rattle.vmx_laps.specs.Lists.{prefix_length, take_one_more}
-use Rattle.vmx_laps.specs.Moves.{next_free, first_in}
-use Rattle.vmx_laps.specs.Views.{all_set, total_same}
+use Rattle.vmx_ring_laws.specs.Lists.{AreComparable, prefix_length, prefix_beside_take, take_one_more}
+use Rattle.vmx_ring_laws.specs.Moves.{next_free, first_in}
+use Rattle.vmx_ring_laws.specs.Views.{all_set, total_same}
 use Rattle.vmx_ends.specs.declared.packet.Packet.{Packet}
 use Rattle.vmx_link.specs.declared.known.Known.{Known}
 use Rattle.vmx_link.specs.Rule.{Ring, Story, Fits, Link, of_sender, of_receiver}
@@ -84,7 +84,14 @@ in_loads n seat me k may not idle bare is s l wide at _ =
           receiver_told = ap (λ (c : ℕ). c + y.sender_heard) (total_same of_receiver s.views seat v w at refl) ∙ z.receiver_told;
         };
       },
-      ((λ _. (a, ap (λ (c : List (ℕ × Option Packet)). (w, (t % n, Some a) ∷ c)) bare)), λ miss. absurd (miss shows)),
+      (
+        (λ _. (
+          a,
+          ap (λ (c : List (ℕ × Option Packet)). (w, (t % n, Some a) ∷ c)) bare,
+          subst (AreComparable v.heard_pushed) (take_one_more pushed t a first.1 ∙ ap (λ l. l ++ a ∷ []) (sym mine.pulled_is)) (prefix_beside_take v.heard_pushed pushed (suc t) own.heard.of_pushed),
+        )),
+        λ miss. absurd (miss shows),
+      ),
     ))
     (λ empty. let b = lap.behind in let pos = lap.some_cell in let shows : x ≡ 2 * (t / n) = ap (λ (i : ℕ). slice_index s.words i) is ∙ (lap.free t (omega arith) (omega arith)).0 in let few = prefix_length v.heard_pushed pushed own.heard.of_pushed in let w : Known = saw_empty v x in (
       w,
@@ -101,5 +108,13 @@ in_loads n seat me k may not idle bare is s l wide at _ =
           receiver_told = ap (λ (c : ℕ). c + y.sender_heard) (total_same of_receiver s.views seat v w at refl) ∙ z.receiver_told;
         };
       },
-      ((λ hit. absurd (omega arith)), λ _. (ap (λ (c : List (ℕ × Option Packet)). (w, c)) bare, shows, omega arith)),
+      (
+        (λ hit. absurd (omega arith)),
+        λ _. (
+          ap (λ (c : List (ℕ × Option Packet)). (w, c)) bare,
+          shows,
+          omega arith,
+          subst (AreComparable v.heard_pushed) (sym mine.pulled_is) (prefix_beside_take v.heard_pushed pushed t own.heard.of_pushed),
+        ),
+      ),
     ))

@@ -5,9 +5,9 @@ use mathlib.Core.Option.{none, some}
 use lib.ListN.{get_elem?}
 use Rattle.atomic_table.specs.Table.{step, Allows, Splits, Joins}
 use Rattle.atomic_table.proofs.Lists.{at_set}
-use Rattle.vmx_laps.specs.Lists.{AreComparable, prefix_length, prefix_trans, prefix_beside_take, take_prefix, longer_of}
-use Rattle.vmx_laps.specs.Steps.{stays}
-use Rattle.vmx_laps.specs.Views.{all_set, all_snoc, total_set, total_same, total_snoc}
+use Rattle.vmx_ring_laws.specs.Lists.{AreComparable, prefix_length, prefix_trans, prefix_beside_take, take_prefix, longer_of}
+use Rattle.vmx_ring_laws.specs.Steps.{stays}
+use Rattle.vmx_ring_laws.specs.Views.{all_set, all_snoc, total_set, total_same, total_snoc}
 use Rattle.vmx_ends.specs.declared.packet.Packet.{Packet}
 use Rattle.vmx_link.specs.declared.known.Known.{Known}
 use Rattle.vmx_link.specs.Seats.{nobody, sender_told, sender_note, receiver_told, receiver_note, hears_sender, hears_receiver}

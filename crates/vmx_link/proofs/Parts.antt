@@ -8,9 +8,9 @@ use lib.ListN.{get_elem?, replicate}
 use Rattle.std.specs.Prelude.{None}
 use Rattle.atomic_table.specs.Table.{step, Allows, Splits, Joins, opening}
 use Rattle.atomic_table.proofs.Lists.{at_set}
-use Rattle.vmx_laps.specs.Lists.{at_replicate, map_some_replicate, take_prefix}
-use Rattle.vmx_laps.specs.Steps.{stays}
-use Rattle.vmx_laps.specs.Views.{all_set, all_snoc, total_same, total_snoc}
+use Rattle.vmx_ring_laws.specs.Lists.{at_replicate, map_some_replicate, take_prefix}
+use Rattle.vmx_ring_laws.specs.Steps.{stays}
+use Rattle.vmx_ring_laws.specs.Views.{all_set, all_snoc, total_same, total_snoc}
 use Rattle.vmx_link.specs.declared.known.Known.{Known}
 use Rattle.vmx_link.specs.Seats.{nobody, newcomer, sender_part, receiver_part, together}
 use Rattle.vmx_link.specs.Rule.{Story, Fits, Link, had, one_if, of_sender, of_receiver}

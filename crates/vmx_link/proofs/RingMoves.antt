@@ -4,8 +4,8 @@ use mathlib.Core.Option.{none, some}
 use native.Mathlib.Nat.{add-div_right}
 use Rattle.std.specs.Prelude.{Some, None}
 use Rattle.atomic_table.proofs.Lists.{set_here, set_else, one_turn}
-use Rattle.vmx_laps.specs.Lists.{at_below}
-use Rattle.vmx_laps.specs.Moves.{elsewhere, touches, puts, leaves}
+use Rattle.vmx_ring_laws.specs.Lists.{at_below}
+use Rattle.vmx_ring_laws.specs.Moves.{elsewhere, touches, puts, leaves}
 use Rattle.vmx_ends.specs.declared.packet.Packet.{Packet}
 use Rattle.vmx_link.specs.Rule.{Ring, Slot}
 

@@ -3,8 +3,8 @@ use Rattle.std.proofs.Common.{◌≡◌, ℕ, suc, ◌+◌, ◌*◌, ◌/◌, �
 use mathlib.Core.Option.{none}
 use Rattle.std.specs.Prelude.{Option, Some, None}
 use Rattle.atomic_table.specs.Table.{step, gives, Allows}
-use Rattle.vmx_laps.specs.Lists.{there_below}
-use Rattle.vmx_laps.specs.Views.{all_set, total_same}
+use Rattle.vmx_ring_laws.specs.Lists.{there_below}
+use Rattle.vmx_ring_laws.specs.Views.{all_set, total_same}
 use Rattle.vmx_ends.specs.declared.packet.Packet.{Packet}
 use Rattle.vmx_link.specs.declared.known.Known.{Known}
 use Rattle.vmx_link.specs.Rule.{Story, Fits, Link, of_sender, of_receiver}

@@ -1,7 +1,7 @@
 -- What a clause sees of the two ends of a link, of notes and of facts, and what each call does to it.
 use Rattle.std.specs.Prelude.{◌≡◌, ℕ, suc, ◌+◌, ◌*◌, ◌/◌, ◌≤◌, List, [], ◌∷◌, ◌++◌, length, true, false}
-use Rattle.vmx_laps.specs.Keys.{key_of}
-use Rattle.vmx_laps.specs.Lists.{longer}
+use Rattle.vmx_ring_laws.specs.Keys.{key_of}
+use Rattle.vmx_ring_laws.specs.Lists.{longer}
 use Rattle.vmx_ends.specs.LinkView.{LinkView}
 use Rattle.vmx_ends.specs.declared.packet.Packet.{Packet}
 use Rattle.vmx_link.specs.declared.ends.LinkOut.{LinkOut}
@@ -16,10 +16,10 @@ use Rattle.vmx_link.specs.Seats.{known}
 use Rattle.vmx_link.specs.Views.{LinkOutView, LinkInView, LinkNoteView}
 
 abbrev pub out_view : LinkOut → LinkOutView
-out_view o = let v = o.seat.me.0 in record { key = key_of o.seat.table_id; capacity = o.seat.table_id.slots; from = o.from; to = o.to; pushed = v.pushed; full = v.full; freed = v.heard_pulled; given = v.sender_gave; heard = v.sender_heard }
+out_view o = let v = o.seat.me.0 in record { key = key_of o.seat.table_id; capacity = o.seat.table_id.slots; from = o.from; to = o.to; pushed = v.pushed; full = v.full; freed = v.heard_pulled; notes_given = v.sender_gave; notes_heard = v.sender_heard }
 
 abbrev pub in_view : LinkIn → LinkInView
-in_view i = let v = i.seat.me.0 in record { key = key_of i.seat.table_id; capacity = i.seat.table_id.slots; from = i.from; to = i.to; pulled = v.pulled; empty = v.empty; filled = v.heard_pushed; given = v.receiver_gave; heard = v.receiver_heard }
+in_view i = let v = i.seat.me.0 in record { key = key_of i.seat.table_id; capacity = i.seat.table_id.slots; from = i.from; to = i.to; pulled = v.pulled; empty = v.empty; filled = v.heard_pushed; notes_given = v.receiver_gave; notes_heard = v.receiver_heard }
 
 abbrev pub note_view : LinkNote → LinkNoteView
 note_view n = let v = n.seat.me.0 in record { key = key_of n.seat.table_id; of_sender = v.tells_pushed; pushed = v.heard_pushed; pulled = v.heard_pulled }
@@ -32,10 +32,10 @@ facts_key f = key_of f.badge.table_id
 
 -- a sender and a receiver that have done nothing yet
 abbrev pub new_out : List ℕ → ℕ → ℕ → ℕ → LinkOutView
-new_out key capacity from to = record { key = key; capacity = capacity; from = from; to = to; pushed = []; full = []; freed = []; given = 0; heard = 0 }
+new_out key capacity from to = record { key = key; capacity = capacity; from = from; to = to; pushed = []; full = []; freed = []; notes_given = 0; notes_heard = 0 }
 
 abbrev pub new_in : List ℕ → ℕ → ℕ → ℕ → LinkInView
-new_in key capacity from to = record { key = key; capacity = capacity; from = from; to = to; pulled = []; empty = []; filled = []; given = 0; heard = 0 }
+new_in key capacity from to = record { key = key; capacity = capacity; from = from; to = to; pulled = []; empty = []; filled = []; notes_given = 0; notes_heard = 0 }
 
 -- the two ends of a new link: they have one key
 abbrev pub IsNewPair : ℕ → ℕ → ℕ → LinkOutView → LinkInView → Type 0
@@ -70,10 +70,10 @@ receiver's_note i = record { key = i.key; of_sender = false; pushed = i.filled; 
 
 -- the sender after it heard a note, and the receiver
 abbrev pub out_after : LinkOutView → LinkNoteView → LinkOutView
-out_after o n = record o { freed = longer o.freed n.pulled; heard = suc o.heard }
+out_after o n = record o { freed = longer o.freed n.pulled; notes_heard = suc o.notes_heard }
 
 abbrev pub in_after : LinkInView → LinkNoteView → LinkInView
-in_after i n = record i { filled = longer i.filled n.pushed; heard = suc i.heard }
+in_after i n = record i { filled = longer i.filled n.pushed; notes_heard = suc i.notes_heard }
 
 -- what is known of a link whose ends have met
 abbrev pub met_view : LinkOutView → LinkInView → LinkView

@@ -5,8 +5,8 @@ use mathlib.Core.Option as maybe
 use mathlib.Core.List.{IsPrefix}
 use lib.ListN.{get_elem?}
 use Rattle.atomic_table.specs.Table.{State}
-use Rattle.vmx_laps.specs.Lap.{Lap}
-use Rattle.vmx_laps.specs.Views.{All, total}
+use Rattle.vmx_ring_laws.specs.Lap.{Lap}
+use Rattle.vmx_ring_laws.specs.Views.{All, total}
 use Rattle.vmx_ends.specs.declared.packet.Packet.{Packet}
 use Rattle.vmx_link.specs.declared.known.Known.{Known}
 

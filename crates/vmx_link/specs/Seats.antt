@@ -1,7 +1,7 @@
 -- What a seat knows at the start, after the table's seats part and meet, and after notes are given and heard.
 use Rattle.std.specs.Prelude.{suc, List, [], ◌∷◌, true, false}
 use Rattle.vmx_link.specs.declared.known.Known.{Known}
-use Rattle.vmx_laps.specs.Lists.{longer}
+use Rattle.vmx_ring_laws.specs.Lists.{longer}
 
 -- a seat that has no part in the link any more
 abbrev pub nobody : Known

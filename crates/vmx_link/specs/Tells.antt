@@ -2,7 +2,7 @@
 use Rattle.std.specs.Prelude.{◌≡◌, ◌≢◌, ℕ, ◌+◌, ◌*◌, ◌/◌, ◌%◌, ◌≤◌, List, [], ◌∷◌, ◌++◌, length, Option, Some, None, true, false}
 use mathlib.Core.List.{IsPrefix}
 use Rattle.atomic_table.specs.Table.{Me, Step}
-use Rattle.vmx_laps.specs.Lists.{AreComparable}
+use Rattle.vmx_ring_laws.specs.Lists.{AreComparable}
 use Rattle.vmx_ends.specs.declared.packet.Packet.{Packet}
 use Rattle.vmx_link.specs.declared.known.Known.{Known}
 
@@ -46,11 +46,12 @@ out_loaded st m word m' = let round = 2 * (length m.0.pushed / st.slots) in
 abbrev pub out_stored : Step (Option Packet) → Seated → ℕ → Seated → Type 0
 out_stored st m word m' = m' ≡ (has_pushed m.0 (carried m.1), [])
 
--- a look of the receiver takes the slot with its packet out where the word is the filled one of its position; else the word is the free one, and no packet was told of
+-- a look of the receiver takes the slot with its packet out where the word is the filled one of its position; else the word is the free one, and no packet was told of;
+-- what was told of stays comparable with what it has pulled
 abbrev pub in_loaded : Step (Option Packet) → Seated → ℕ → Seated → Type 0
 in_loaded st m word m' = let round = 2 * (length m.0.pulled / st.slots) in
-    (word ≡ round + 1 → (x : Packet) × (m' ≡ (takes_packet m.0 x, (length m.0.pulled % st.slots, Some x) ∷ [])))
-    × (word ≢ round + 1 → (m' ≡ (saw_empty m.0 word, [])) × (word ≡ round) × (length m.0.heard_pushed ≤ length m.0.pulled))
+    (word ≡ round + 1 → (x : Packet) × (m' ≡ (takes_packet m.0 x, (length m.0.pulled % st.slots, Some x) ∷ [])) × AreComparable m.0.heard_pushed (m.0.pulled ++ x ∷ []))
+    × (word ≢ round + 1 → (m' ≡ (saw_empty m.0 word, [])) × (word ≡ round) × (length m.0.heard_pushed ≤ length m.0.pulled) × AreComparable m.0.heard_pushed m.0.pulled)
 
 abbrev pub in_stored : Step (Option Packet) → Seated → ℕ → Seated → Type 0
 in_stored st m word m' = m' ≡ (rests m.0, [])

@@ -2,9 +2,10 @@
 //! The entry of position p has the word and the slot p % capacity. The word says who owns the slot, and is stored last:
 //! 2 * (p / capacity) while the sender may fill it, one more while the receiver may empty it.
 //! One thread pushes and one pulls. Own to this project.
-ghost use Rattle.std.specs.Prelude.{◌≡◌, ◌+◌, ◌<◌, ◌≤◌, [], length, take, true, false, not};
+ghost use Rattle.std.specs.Prelude.{◌≡◌, ◌+◌, ◌<◌, ◌≤◌, [], length, take, true, false, not, All};
 ghost use Rattle.std.specs.Arc.{arc_value};
 ghost use Rattle.vmx_link.specs.Seats.{known};
+ghost use Rattle.vmx_link.specs.Views.{IsFullLook};
 
 use crate::known::{Entries, Known};
 use atomic_table::{Badge, Seat, Table};
@@ -38,6 +39,7 @@ pub struct LinkOut {
     ghost sized: { (capacity ≡ seat.table_id.slots) × (capacity ≡ seat.table_id.words) × (0 < capacity) × (capacity ≤ 64) },
     ghost rests: { (seat.me.0.sends ≡ true) × (seat.me.0.receives ≡ false) × (seat.me.0.busy ≡ false) × (seat.me.1 ≡ []) },
     ghost counts: { (place ≡ length seat.me.0.pushed) × (looks ≡ length seat.me.0.full) },
+    ghost looked: { All (IsFullLook capacity) seat.me.0.full },
 }
 
 /// The end that pulls packets.
@@ -55,6 +57,42 @@ pub struct LinkIn {
     ghost rests: { (seat.me.0.sends ≡ false) × (seat.me.0.receives ≡ true) × (seat.me.0.busy ≡ false) × (seat.me.1 ≡ []) },
     ghost counts: { place ≡ length seat.me.0.pulled },
     ghost tells: { (seat.me.0.tells_pushed ≡ false) × (seat.me.0.tells_pulled ≡ false) },
+}
+
+impl LinkOut {
+    ghost use Rattle.vmx_link.specs.Ends.{out_view};
+
+    /// The port that pushes.
+    pub fn from(&self) -> u32
+        ensures from { result ≡ (out_view self.now).from }
+    {
+        self.from
+    }
+
+    /// The port that pulls.
+    pub fn to(&self) -> u32
+        ensures to { result ≡ (out_view self.now).to }
+    {
+        self.to
+    }
+}
+
+impl LinkIn {
+    ghost use Rattle.vmx_link.specs.Ends.{in_view};
+
+    /// The port that pushes.
+    pub fn from(&self) -> u32
+        ensures from { result ≡ (in_view self.now).from }
+    {
+        self.from
+    }
+
+    /// The port that pulls.
+    pub fn to(&self) -> u32
+        ensures to { result ≡ (in_view self.now).to }
+    {
+        self.to
+    }
 }
 
 /// What one end tells the other of what it has done. It takes no memory, and is heard once.

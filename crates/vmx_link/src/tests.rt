@@ -7,19 +7,21 @@ use std::alloc::{AllocError, Global};
 use std::test::Fail;
 use std::thread;
 use vmx_ends::{Packet, Tag};
-use vmx_io::Bytes;
 
 const PACKETS: u64 = 20_000;
 
 /// A link is looked at no more often than this: far more often than any run needs.
 const TRIES: u64 = 1 << 40;
 
+/// How many bytes frames are cut from.
+const TEXT: usize = 9_265;
+
 /// The bytes that frames are cut from.
 fn text(alloc: Global) -> Result<Vec<u8>, AllocError>
-    ensures { IfOk result (λ v. length v.items ≡ 9265) }
+    ensures len { IfOk result (λ v. length v.items ≡ TEXT) }
 {
-    let mut text = Vec::from_elem(alloc, 0u8, 9265)?;
-    for i in 0..9265 {
+    let mut text = Vec::from_elem(alloc, 0u8, TEXT)?;
+    for i in 0..TEXT {
         text[i] = (i % 251) as u8;
     }
     Ok(text)
@@ -27,7 +29,7 @@ fn text(alloc: Global) -> Result<Vec<u8>, AllocError>
 
 /// The frame with this number: 60 to 9,014 bytes from one of 251 places on.
 fn frame_of(text: &[u8], number: u64) -> &[u8]
-    requires { length text.now ≡ 9265 }
+    requires text { length text.now ≡ TEXT }
     ensures least { 60 ≤ length result.now }
     ensures most { length result.now ≤ 9014 }
 {
@@ -46,28 +48,25 @@ fn tag_of(number: u64) -> Tag {
 }
 
 fn packet_of(alloc: Global, text: &[u8], number: u64) -> Result<Packet, AllocError>
-    requires { length text.now ≡ 9265 }
+    requires text { length text.now ≡ TEXT }
 {
-    Ok(Packet {
-        tag: tag_of(number),
-        frame: Bytes::from_slice(alloc, frame_of(text, number))?,
-    })
+    Packet::copy_of(alloc, tag_of(number), frame_of(text, number))
 }
 
 fn is_packet(packet: &Packet, text: &[u8], number: u64) -> bool
-    requires { length text.now ≡ 9265 }
+    requires text { length text.now ≡ TEXT }
 {
     packet.tag == tag_of(number) && packet.frame.as_slice() == frame_of(text, number)
 }
 
 /// Pushes all packets, as often as it takes.
 fn send(output: LinkOut, alloc: Global, text: &[u8]) -> Result<LinkOut, AllocError>
-    requires text { length text.now ≡ 9265 }
+    requires text { length text.now ≡ TEXT }
     requires fresh { (out_view output).pushed ≡ [] }
     requires none_full { (out_view output).full ≡ [] }
     ensures key { IfOk result (λ o. (out_view o).key ≡ (out_view output).key) }
-    ensures given { IfOk result (λ o. (out_view o).given ≡ (out_view output).given) }
-    ensures heard { IfOk result (λ o. (out_view o).heard ≡ (out_view output).heard) }
+    ensures given { IfOk result (λ o. (out_view o).notes_given ≡ (out_view output).notes_given) }
+    ensures heard { IfOk result (λ o. (out_view o).notes_heard ≡ (out_view output).notes_heard) }
 {
     let mut output = output;
     let mut number = 0;
@@ -96,11 +95,11 @@ fn send(output: LinkOut, alloc: Global, text: &[u8]) -> Result<LinkOut, AllocErr
 
 /// Pulls all packets, and counts those that are the packet of their number.
 fn receive(input: LinkIn, text: &[u8]) -> (LinkIn, u64)
-    requires text { length text.now ≡ 9265 }
+    requires text { length text.now ≡ TEXT }
     requires fresh { (in_view input).pulled ≡ [] }
     ensures key { (in_view result.0).key ≡ (in_view input).key }
-    ensures given { (in_view result.0).given ≡ (in_view input).given }
-    ensures heard { (in_view result.0).heard ≡ (in_view input).heard }
+    ensures given { (in_view result.0).notes_given ≡ (in_view input).notes_given }
+    ensures heard { (in_view result.0).notes_heard ≡ (in_view input).notes_heard }
 {
     let mut input = input;
     let mut same = 0;
@@ -131,12 +130,12 @@ fn two_threads_carry_all_packets_in_order(rt: HostRuntime) -> Result<(), Fail> {
     let (sent, (input, same)) = thread::join(
         &rt,
         move ||
-            requires { (length text.now ≡ 9265) × ((out_view output).pushed ≡ []) × ((out_view output).full ≡ []) }
-            ensures { IfOk result (λ o. ((out_view o).key ≡ (out_view output).key) × ((out_view o).given ≡ (out_view output).given) × ((out_view o).heard ≡ (out_view output).heard)) }
+            requires begins { (length text.now ≡ TEXT) × ((out_view output).pushed ≡ []) × ((out_view output).full ≡ []) }
+            ensures ends { IfOk result (λ o. ((out_view o).key ≡ (out_view output).key) × ((out_view o).notes_given ≡ (out_view output).notes_given) × ((out_view o).notes_heard ≡ (out_view output).notes_heard)) }
         { send(output, alloc, text) },
         move ||
-            requires { (length text.now ≡ 9265) × ((in_view input).pulled ≡ []) }
-            ensures { ((in_view result.0).key ≡ (in_view input).key) × ((in_view result.0).given ≡ (in_view input).given) × ((in_view result.0).heard ≡ (in_view input).heard) }
+            requires begins { (length text.now ≡ TEXT) × ((in_view input).pulled ≡ []) }
+            ensures ends { ((in_view result.0).key ≡ (in_view input).key) × ((in_view result.0).notes_given ≡ (in_view input).notes_given) × ((in_view result.0).notes_heard ≡ (in_view input).notes_heard) }
         { receive(input, text) },
     );
     let facts = meet(sent?, input);

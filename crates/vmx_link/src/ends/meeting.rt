@@ -1,23 +1,27 @@
 //! How the two ends of a link meet, and what is known then.
 ghost use Rattle.std.specs.Prelude.{◌≡◌, ◌+◌, ◌≤◌, length};
+ghost use Rattle.std.specs.List.{AllByRecursion};
 ghost use mathlib.Core.List.{IsPrefix};
 ghost use Rattle.vmx_link.specs.Ends.{out_view, in_view, facts_view, facts_key, met_view};
+ghost use Rattle.vmx_link.specs.Views.{IsFullLook};
 
 use super::{LinkFacts, LinkIn, LinkOut};
 use crate::steps::{Met, Together};
 
-/// The facts of a link: what was pulled is a prefix of what was pushed. Both ends are even: each has heard as many notes
-/// as it gave, so that no note is out.
+/// The facts of a link: what was pulled is a prefix of what was pushed, and each look that found the link full came behind
+/// at least as many packets as it has entries. Both ends are even: each has heard as many notes as it gave, so that no note
+/// is out.
 pub fn meet(output: LinkOut, input: LinkIn) -> LinkFacts
     requires key { (out_view output).key ≡ (in_view input).key }
-    requires output_even { (out_view output).given ≡ (out_view output).heard }
-    requires input_even { (in_view input).given ≡ (in_view input).heard }
+    requires output_even { (out_view output).notes_given ≡ (out_view output).notes_heard }
+    requires input_even { (in_view input).notes_given ≡ (in_view input).notes_heard }
     ensures view { facts_view result ≡ met_view (out_view output) (in_view input) }
     ensures key { facts_key result ≡ (out_view output).key }
     ensures pulled { IsPrefix (in_view input).pulled (out_view output).pushed }
     ensures room { length (out_view output).pushed ≤ length (in_view input).pulled + (out_view output).capacity }
-    ensures output_heard { (out_view output).heard ≡ (in_view input).given }
-    ensures input_heard { (in_view input).heard ≡ (out_view output).given }
+    ensures full { AllByRecursion (IsFullLook (out_view output).capacity) (out_view output).full }
+    ensures output_heard { (out_view output).notes_heard ≡ (in_view input).notes_given }
+    ensures input_heard { (in_view input).notes_heard ≡ (out_view output).notes_given }
 {
     let LinkOut {
         table,

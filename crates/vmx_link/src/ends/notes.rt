@@ -9,7 +9,7 @@ impl LinkOut {
 
     /// A copy of what this end has pushed, and of what it heard was pulled.
     pub fn note(&mut self) -> LinkNote
-        ensures same { out_view self.new ≡ record (out_view self.old) { given = suc (out_view self.old).given } }
+        ensures same { out_view self.new ≡ record (out_view self.old) { notes_given = suc (out_view self.old).notes_given } }
         ensures note { note_view result ≡ sender's_note (out_view self.old) }
     {
         let shared = &self.table.shared;
@@ -41,12 +41,12 @@ impl LinkOut {
 impl LinkIn {
     ghost use Rattle.std.specs.Prelude.{◌≡◌, suc, ◌+◌, ◌≤◌, true, length};
     ghost use mathlib.Core.List.{IsPrefix};
-    ghost use Rattle.vmx_laps.specs.Lists.{AreComparable};
+    ghost use Rattle.vmx_ring_laws.specs.Lists.{AreComparable};
     ghost use Rattle.vmx_link.specs.Ends.{in_view, note_view, receiver's_note, in_after};
 
     /// A copy of what this end has pulled, and of what it heard was pushed.
     pub fn note(&mut self) -> LinkNote
-        ensures same { in_view self.new ≡ record (in_view self.old) { given = suc (in_view self.old).given } }
+        ensures same { in_view self.new ≡ record (in_view self.old) { notes_given = suc (in_view self.old).notes_given } }
         ensures note { note_view result ≡ receiver's_note (in_view self.old) }
     {
         let shared = &self.table.shared;

@@ -5,13 +5,16 @@ use crate::steps::{InLoad, InStore};
 
 impl LinkIn {
     ghost use Rattle.std.specs.Prelude.{◌^◌, ◌<◌, length};
+    ghost use Rattle.vmx_ring_laws.specs.Lists.{AreComparable};
     ghost use Rattle.vmx_link.specs.Ends.{in_view, Pulls, WasEmpty};
 
     /// Takes the next packet. `Empty`: a look of this call found that its entry was not filled yet.
     pub fn pull(&mut self) -> Pull
-        requires { length (in_view self.old).pulled < 2 ^ 62 }
+        requires packets { length (in_view self.old).pulled < 2 ^ 62 }
         ensures answer { Pulls (in_view self.old) result (in_view self.new) }
         ensures cause { WasEmpty (in_view self.old) result }
+        // Of what it heard was pushed and what this end has pulled, one is a prefix of the other.
+        ensures filled { AreComparable (in_view self.new).filled (in_view self.new).pulled }
     {
         let index = (self.place % self.capacity) as usize;
         let filled = 2 * (self.place / self.capacity) + 1;

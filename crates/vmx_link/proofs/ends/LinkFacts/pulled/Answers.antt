@@ -1,6 +1,6 @@
 use Rattle.std.proofs.Common.{sym, subst}
 use mathlib.Core.List.{IsPrefix}
-use Rattle.vmx_laps.specs.Lists.{take_prefix}
+use Rattle.vmx_ring_laws.specs.Lists.{take_prefix}
 use Rattle.vmx_link.specs.Seats.{known}
 use Rattle.vmx_link.proofs.ends.LinkFacts.pulled.Goals as goal
 

@@ -1,6 +1,6 @@
 use Rattle.std.proofs.Common.{rules, sym, ap, ◌∙◌}
 use Rattle.std.specs.Prelude.{not}
-use Rattle.vmx_laps.specs.Keys.{same_table}
+use Rattle.vmx_ring_laws.specs.Keys.{same_table}
 use Rattle.vmx_link.proofs.Notes.{receiver_hears, tells_in}
 use Rattle.vmx_link.proofs.ends.LinkIn.hear.Goals as goal
 

@@ -1,6 +1,6 @@
 use Rattle.std.proofs.Common.{rules, ◌+◌, ℕ, ◌*◌, ◌/◌, ◌%◌, ◌∷◌, [], length, sym, refl, ap, ap₂, ◌∙◌, Some, arith, length-append}
 use Rattle.atomic_table.specs.Table.{rest}
-use Rattle.vmx_laps.specs.Steps.{swaps_out}
+use Rattle.vmx_ring_laws.specs.Steps.{swaps_out}
 use Rattle.vmx_link.specs.Tells.{takes_packet}
 use Rattle.vmx_link.proofs.Looks.{in_loads}
 use Rattle.vmx_link.proofs.Stores.{in_stores}

@@ -1,6 +1,6 @@
 use Rattle.std.proofs.Common.{rules, sym, ap, ◌∙◌}
 use Rattle.std.specs.Prelude.{not}
-use Rattle.vmx_laps.specs.Keys.{same_table}
+use Rattle.vmx_ring_laws.specs.Keys.{same_table}
 use Rattle.vmx_link.proofs.Notes.{sender_hears, tells_out}
 use Rattle.vmx_link.proofs.ends.LinkOut.hear.Goals as goal
 

@@ -1,5 +1,5 @@
 use Rattle.std.proofs.Common.{rules, ◌+◌, ℕ, ◌*◌, ◌/◌, ◌%◌, sym, refl, ap, ap₂, ◌∙◌}
-use Rattle.vmx_laps.specs.Steps.{swaps_out}
+use Rattle.vmx_ring_laws.specs.Steps.{swaps_out}
 use Rattle.vmx_link.specs.Tells.{writes}
 use Rattle.vmx_link.proofs.Looks.{out_loads}
 use Rattle.vmx_link.proofs.Stores.{out_stores}

@@ -1,5 +1,5 @@
 use Rattle.std.proofs.Common.{rules, sym, ap, ◌∙◌}
-use Rattle.vmx_laps.specs.Keys.{same_table}
+use Rattle.vmx_ring_laws.specs.Keys.{same_table}
 use Rattle.vmx_link.proofs.Parts.{meets, tells_met}
 use Rattle.vmx_link.proofs.ends.meeting.meet.Goals as goal
 
