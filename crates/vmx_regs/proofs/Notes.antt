@@ -9,16 +9,16 @@ use Rattle.atomic_table.proofs.Lists.{at_set}
 use Rattle.vmx_io.specs.declared.handed.HandedView.{HandedView}
 use Rattle.vmx_device_state.specs.declared.turn.Turn.{Turn}
 use Rattle.std.proofs.lemmas.List.{length-map}
-use Rattle.vmx_laps.specs.Lists.{prefix_length, prefix_trans, longer_of}
-use Rattle.vmx_laps.specs.Steps.{stays}
-use Rattle.vmx_laps.specs.Views.{all_set, all_snoc}
+use Rattle.vmx_ring_laws.specs.Lists.{prefix_length, prefix_trans, longer_of}
+use Rattle.vmx_ring_laws.specs.Steps.{stays}
+use Rattle.vmx_ring_laws.specs.Views.{all_set, all_snoc}
 use Rattle.vmx_device_state.specs.declared.turn.CommandView.{CommandView}
 use Rattle.vmx_regs.specs.declared.known.Calls.{Calls}
-use Rattle.vmx_regs.specs.Rule.{Phase, Closed, Rest, Sent, Serving, Answered, turn_of, commands_of, with_asked, told_driver, driver_note, told_device, device_note, hears_driver, hears_device, Story, Fits, Kept, one_if, nobody, asked_of, sent_of, served_of}
-use Rattle.vmx_regs.specs.Plays.{driver_heard, device_heard}
+use Rattle.vmx_regs.specs.Rule.{Phase, Closed, Rest, Sent, Serving, Answered, turn_of, commands_of, with_asked, told_driver, driver_note, told_device, device_note, hears_driver, hears_device, Story, Fits, Kept, one_if, nobody, asked_of, sent_of, sent_by, served_of}
+use Rattle.vmx_regs.specs.Plays.{driver_knows, device_knows}
 use Rattle.vmx_regs.proofs.Told.{commands_set, served_set, commands_snoc, served_snoc, commands_same, served_same}
-use Rattle.vmx_regs.proofs.Steps.{M, none_some, past_served, seen_sent, driver_agrees, device_agrees}
-use Rattle.vmx_regs.proofs.Seats.{nobody's}
+use Rattle.vmx_regs.proofs.Steps.{M, none_some, past_served, seen_sent, driver_beside, driver_agrees, device_beside, device_agrees}
+use Rattle.vmx_regs.proofs.Seats.{no_news, nobody's}
 use Rattle.vmx_regs.proofs.Words.{length_snoc}
 
 -- with no command outstanding, the driver has all answers
@@ -33,7 +33,7 @@ module _ {E : Type 0} (handed : E → HandedView) where
   pub gives_driver : (id : ℕ) (v : Calls) → v.drives ≡ true → v.serves ≡ false → Splits (Kept handed) id v (told_driver v) (driver_note v)
   gives_driver id v a b s l at =
       let y : Story = l.story in let z = l.told in let own = z.each id v at in let left : Calls = told_driver v in let right : Calls = driver_note v in let vs : List Calls = set s.views id left in
-      let mine = own.driver's a in let y' : Story = record y { driver_given = suc y.driver_given } in record {
+      let mine = own.driver's a in let y' : Story = record y { driver_notes_given = suc y.driver_notes_given } in record {
         story = y';
         told = record {
           words = z.words;
@@ -45,14 +45,13 @@ module _ {E : Type 0} (handed : E → HandedView) where
               record {
                 driver's = λ e. absurd (true≢false (sym e));
                 device's = λ e. absurd (true≢false (sym e));
-                heard_commands = ([], append-nil (with_asked (commands_of v.turns) v.asked) ∙ ap₂ (λ ts o. with_asked (commands_of ts) o) mine.1 mine.2);
-                heard_served = (served_of y.past y.phase, refl);
-                heard_turns = ([], append-nil v.turns ∙ mine.1);
+                heard = (([], append-nil (with_asked (commands_of v.turns) v.asked) ∙ ap₂ (λ ts o. with_asked (commands_of ts) o) mine.1 mine.2), (served_of y.past y.phase, refl), ([], append-nil v.turns ∙ mine.1));
+                last = no_news y;
               }
               (λ j u _. all_set (Fits y') s.views id left
-              record { driver's = λ _. (mine.0, mine.1, mine.2, mine.3, ap suc mine.4, mine.5); device's = λ e. absurd (true≢false (sym e ∙ b)); heard_commands = own.heard_commands; heard_served = own.heard_served; heard_turns = own.heard_turns }
+              record { driver's = λ _. (mine.0, mine.1, mine.2, mine.3, ap suc mine.4, mine.5); device's = λ e. absurd (true≢false (sym e ∙ b)); heard = own.heard; last = own.last }
               (λ i x apart e. let f = z.each i x e in
-              record { driver's = λ may. absurd (apart ((f.driver's may).0 ∙ sym mine.0)); device's = f.device's; heard_commands = f.heard_commands; heard_served = f.heard_served; heard_turns = f.heard_turns })
+              record { driver's = λ may. absurd (apart ((f.driver's may).0 ∙ sym mine.0)); device's = f.device's; heard = f.heard; last = f.last })
               j u);
           driver_told = let p = commands_snoc vs right in let q = commands_same s.views id v left at refl in let o = z.driver_told in omega arith;
           device_told = let p = served_snoc vs right in let q = served_same s.views id v left at refl in let o = z.device_told in omega arith;
@@ -62,7 +61,7 @@ module _ {E : Type 0} (handed : E → HandedView) where
   pub gives_device : (id : ℕ) (v : Calls) → v.serves ≡ true → v.drives ≡ false → Splits (Kept handed) id v (told_device v) (device_note v)
   gives_device id v a b s l at =
       let y : Story = l.story in let z = l.told in let own = z.each id v at in let left : Calls = told_device v in let right : Calls = device_note v in let vs : List Calls = set s.views id left in
-      let mine = own.device's a in let y' : Story = record y { device_given = suc y.device_given } in record {
+      let mine = own.device's a in let y' : Story = record y { device_notes_given = suc y.device_notes_given } in record {
         story = y';
         told = record {
           words = z.words;
@@ -74,14 +73,17 @@ module _ {E : Type 0} (handed : E → HandedView) where
               record {
                 driver's = λ e. absurd (true≢false (sym e));
                 device's = λ e. absurd (true≢false (sym e));
-                heard_commands = subst (λ (q : List Turn × Option CommandView). IsPrefix (with_asked (commands_of q.0) q.1) (sent_of y.past y.phase)) (λ i. (sym mine.1 i, sym mine.2 i)) (seen_sent y.past y.phase);
-                heard_served = ([], append-nil v.served ∙ mine.1);
-                heard_turns = (y.past, refl);
+                heard = (
+                  subst (λ (q : List Turn × Option CommandView). IsPrefix (with_asked (commands_of q.0) q.1) (sent_of y.past y.phase)) (λ i. (sym mine.1 i, sym mine.2 i)) (seen_sent y.past y.phase),
+                  ([], append-nil v.served ∙ mine.1),
+                  (y.past, refl),
+                );
+                last = no_news y;
               }
               (λ j u _. all_set (Fits y') s.views id left
-              record { driver's = λ e. absurd (true≢false (sym e ∙ b)); device's = λ _. (mine.0, mine.1, mine.2, ap suc mine.3, mine.4); heard_commands = own.heard_commands; heard_served = own.heard_served; heard_turns = own.heard_turns }
+              record { driver's = λ e. absurd (true≢false (sym e ∙ b)); device's = λ _. (mine.0, mine.1, mine.2, ap suc mine.3, mine.4); heard = own.heard; last = own.last }
               (λ i x apart e. let f = z.each i x e in
-              record { driver's = f.driver's; device's = λ may. absurd (apart ((f.device's may).0 ∙ sym mine.0)); heard_commands = f.heard_commands; heard_served = f.heard_served; heard_turns = f.heard_turns })
+              record { driver's = f.driver's; device's = λ may. absurd (apart ((f.device's may).0 ∙ sym mine.0)); heard = f.heard; last = f.last })
               j u);
           driver_told = let p = commands_snoc vs right in let q = commands_same s.views id v left at refl in let o = z.driver_told in omega arith;
           device_told = let p = served_snoc vs right in let q = served_same s.views id v left at refl in let o = z.device_told in omega arith;
@@ -92,7 +94,7 @@ module _ {E : Type 0} (handed : E → HandedView) where
   hears_driver_keeps id v other w a away b c s l at two at' =
       let y : Story = l.story in let z = l.told in let now : Calls = hears_driver v w in let own = z.each id v at in let mine = own.device's a in let vs : List Calls = set s.views id now in
       let was : get_elem? s.views other ≡ some w = ⊎_elim (λ x. absurd (two x.0)) (λ x. x.1) (at_set s.views id other now w at') in let theirs = z.each other w was in
-      let y' : Story = record y { device_heard = suc y.device_heard } in record {
+      let y' : Story = record y { device_notes_heard = suc y.device_notes_heard } in record {
         story = y';
         told = record {
           words = z.words;
@@ -105,15 +107,18 @@ module _ {E : Type 0} (handed : E → HandedView) where
               record {
                 driver's = λ e. absurd (true≢false (sym e ∙ away));
                 device's = λ _. (mine.0, mine.1, mine.2, mine.3, ap suc mine.4);
-                heard_commands = longer_of (λ l. IsPrefix l (sent_of y.past y.phase)) v.heard_commands w.heard_commands own.heard_commands theirs.heard_commands;
-                heard_served = own.heard_served;
-                heard_turns = longer_of (λ l. IsPrefix l y.past) v.heard_turns w.heard_turns own.heard_turns theirs.heard_turns;
+                heard = (
+                  longer_of (λ l. IsPrefix l (sent_of y.past y.phase)) v.heard_commands w.heard_commands own.heard.0 theirs.heard.0,
+                  own.heard.1,
+                  longer_of (λ l. IsPrefix l y.past) v.heard_turns w.heard_turns own.heard.2 theirs.heard.2,
+                );
+                last = theirs.heard;
               }
               (λ i x apart e. let f = z.each i x e in
-              record { driver's = f.driver's; device's = λ may. absurd (apart ((f.device's may).0 ∙ sym mine.0)); heard_commands = f.heard_commands; heard_served = f.heard_served; heard_turns = f.heard_turns })
+              record { driver's = f.driver's; device's = λ may. absurd (apart ((f.device's may).0 ∙ sym mine.0)); heard = f.heard; last = f.last })
               j u);
           driver_told = let p = commands_set vs other w nobody at' in let q = commands_same s.views id v now at refl in let o = z.driver_told in let n = ap one_if b in omega arith;
-          device_told = ap (λ (n : ℕ). n + y.driver_heard) (served_same vs other w nobody at' (sym c) ∙ served_same s.views id v now at refl) ∙ z.device_told;
+          device_told = ap (λ (n : ℕ). n + y.driver_notes_heard) (served_same vs other w nobody at' (sym c) ∙ served_same s.views id v now at refl) ∙ z.device_told;
         };
       }
 
@@ -121,7 +126,7 @@ module _ {E : Type 0} (handed : E → HandedView) where
   hears_device_keeps id v other w a away b c s l at two at' =
       let y : Story = l.story in let z = l.told in let now : Calls = hears_device v w in let own = z.each id v at in let mine = own.driver's a in let vs : List Calls = set s.views id now in
       let was : get_elem? s.views other ≡ some w = ⊎_elim (λ x. absurd (two x.0)) (λ x. x.1) (at_set s.views id other now w at') in let theirs = z.each other w was in
-      let y' : Story = record y { driver_heard = suc y.driver_heard } in record {
+      let y' : Story = record y { driver_notes_heard = suc y.driver_notes_heard } in record {
         story = y';
         told = record {
           words = z.words;
@@ -134,15 +139,18 @@ module _ {E : Type 0} (handed : E → HandedView) where
               record {
                 driver's = λ _. (mine.0, mine.1, mine.2, mine.3, mine.4, ap suc mine.5);
                 device's = λ e. absurd (true≢false (sym e ∙ away));
-                heard_commands = longer_of (λ l. IsPrefix l (sent_of y.past y.phase)) v.heard_commands w.heard_commands own.heard_commands theirs.heard_commands;
-                heard_served = longer_of (λ l. IsPrefix l (served_of y.past y.phase)) v.heard_served w.heard_served own.heard_served theirs.heard_served;
-                heard_turns = own.heard_turns;
+                heard = (
+                  longer_of (λ l. IsPrefix l (sent_of y.past y.phase)) v.heard_commands w.heard_commands own.heard.0 theirs.heard.0,
+                  longer_of (λ l. IsPrefix l (served_of y.past y.phase)) v.heard_served w.heard_served own.heard.1 theirs.heard.1,
+                  own.heard.2,
+                );
+                last = theirs.heard;
               }
               (λ i x apart e. let f = z.each i x e in
-              record { driver's = λ may. absurd (apart ((f.driver's may).0 ∙ sym mine.0)); device's = f.device's; heard_commands = f.heard_commands; heard_served = f.heard_served; heard_turns = f.heard_turns })
+              record { driver's = λ may. absurd (apart ((f.driver's may).0 ∙ sym mine.0)); device's = f.device's; heard = f.heard; last = f.last })
               j u);
           device_told = let p = served_set vs other w nobody at' in let q = served_same s.views id v now at refl in let o = z.device_told in let n = ap one_if b in omega arith;
-          driver_told = ap (λ (n : ℕ). n + y.device_heard) (commands_same vs other w nobody at' (sym c) ∙ commands_same s.views id v now at refl) ∙ z.driver_told;
+          driver_told = ap (λ (n : ℕ). n + y.device_notes_heard) (commands_same vs other w nobody at' (sym c) ∙ commands_same s.views id v now at refl) ∙ z.driver_told;
         };
       }
 
@@ -160,19 +168,36 @@ module _ {E : Type 0} (handed : E → HandedView) where
   sent_short past (Serving c) = let e = length-map past (λ (t : Turn). t.command) in let f = length_snoc (commands_of past) c in omega arith
   sent_short past (Answered c a) = let e = length-map past (λ (t : Turn). t.command) in let f = length_snoc (commands_of past) c in let g = length_snoc past (turn_of c a) in omega arith
 
-  pub tells_driver : (n id : ℕ) (me : M E) → me.0.drives ≡ true → Allows (Kept handed) n id me 0 (λ x. x) (driver_heard (step n 0 0 0 none) me)
-  tells_driver n id me may = stays (Kept handed) n id me 0 (driver_heard (step n 0 0 0 none) me)
+  pub tells_driver : (n id : ℕ) (me : M E) → me.0.drives ≡ true → Allows (Kept handed) n id me 0 (λ x. x) (driver_knows (step n 0 0 0 none) me)
+  tells_driver n id me may = stays (Kept handed) n id me 0 (driver_knows (step n 0 0 0 none) me)
       (λ s l wide at. let y : Story = l.story in let own = l.told.each id me.0 at in let mine = own.driver's may in
-      let few = prefix_length me.0.heard_served (served_of y.past y.phase) own.heard_served in let short = served_short y.past y.phase in let same = ap length mine.1 in (
+      let few = prefix_length me.0.heard_served (served_of y.past y.phase) own.heard.1 in let short = served_short y.past y.phase in let same = ap length mine.1 in
+      let taken : (l : List Turn) → IsPrefix l (served_of y.past y.phase) → me.0.asked ≡ None → IsPrefix l me.0.turns = λ l p idle. subst (IsPrefix l) (idle_served y.past y.phase (sym mine.2 ∙ idle) ∙ sym mine.1) p in
+      let sent : (l : List CommandView) → IsPrefix l (sent_of y.past y.phase) → IsPrefix l (sent_by me.0) =
+      λ l p. subst (λ (q : List Turn × Option CommandView). IsPrefix l (with_asked (commands_of q.0) q.1)) (λ i. (sym mine.1 i, sym mine.2 i)) p in (
         refl,
-        driver_agrees y id me.0 own may,
-        omega arith,
-        λ idle. subst (IsPrefix me.0.heard_served) (idle_served y.past y.phase (sym mine.2 ∙ idle) ∙ sym mine.1) own.heard_served,
-        subst (λ (q : List Turn × Option CommandView). IsPrefix me.0.heard_commands (with_asked (commands_of q.0) q.1)) (λ i. (sym mine.1 i, sym mine.2 i)) own.heard_commands,
+        record {
+          agrees = driver_agrees y id me.0 own may;
+          short = omega arith;
+          idle = taken me.0.heard_served own.heard.1;
+          sent = sent me.0.heard_commands own.heard.0;
+          last_agrees = driver_beside y id me.0 own may me.0.last_served own.last.1;
+          last_idle = taken me.0.last_served own.last.1;
+          last_sent = sent me.0.last_commands own.last.0;
+        },
       ))
 
-  pub tells_device : (n id : ℕ) (me : M E) → me.0.serves ≡ true → Allows (Kept handed) n id me 0 (λ x. x) (device_heard (step n 0 0 0 none) me)
-  tells_device n id me may = stays (Kept handed) n id me 0 (device_heard (step n 0 0 0 none) me)
+  pub tells_device : (n id : ℕ) (me : M E) → me.0.serves ≡ true → Allows (Kept handed) n id me 0 (λ x. x) (device_knows (step n 0 0 0 none) me)
+  tells_device n id me may = stays (Kept handed) n id me 0 (device_knows (step n 0 0 0 none) me)
       (λ s l wide at. let y : Story = l.story in let own = l.told.each id me.0 at in let mine = own.device's may in
-      let few = prefix_length me.0.heard_commands (sent_of y.past y.phase) own.heard_commands in let short = sent_short y.past y.phase in let same = ap length mine.1 in
-      (refl, device_agrees y id me.0 own may, omega arith, subst (IsPrefix me.0.heard_turns) (sym mine.1) (prefix_trans me.0.heard_turns y.past (served_of y.past y.phase) own.heard_turns (past_served y.past y.phase))))
+      let few = prefix_length me.0.heard_commands (sent_of y.past y.phase) own.heard.0 in let short = sent_short y.past y.phase in let same = ap length mine.1 in
+      let served : (l : List Turn) → IsPrefix l y.past → IsPrefix l me.0.served = λ l p. subst (IsPrefix l) (sym mine.1) (prefix_trans l y.past (served_of y.past y.phase) p (past_served y.past y.phase)) in (
+        refl,
+        record {
+          agrees = device_agrees y id me.0 own may;
+          short = omega arith;
+          served = served me.0.heard_turns own.heard.2;
+          last_agrees = device_beside y id me.0 own may me.0.last_commands own.last.0;
+          last_served = served me.0.last_turns own.last.2;
+        },
+      ))

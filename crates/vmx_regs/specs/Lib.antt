@@ -1,7 +1,11 @@
 pub mod Turns
 pub mod Rule
+pub mod Both
+pub mod Masks
+pub mod Whole
 pub mod Lawful
 pub mod Plays
 pub mod Slots
+pub mod Bells
+pub mod Agree
 pub mod Ends
-pub mod Machine

@@ -1,8 +1,9 @@
-use Rattle.std.proofs.Common.{rules, ap, sym, ◌∙◌}
-use Rattle.vmx_laps.specs.Keys.{same_table}
-use Rattle.vmx_regs.specs.Rule.{Kept, known}
-use Rattle.vmx_regs.specs.Plays.{device_heard}
-use Rattle.vmx_regs.proofs.Seen.{calls_join, load_allows}
+use Rattle.std.proofs.Common.{rules, arith, ap, sym, ◌∙◌}
+use Rattle.vmx_ring_laws.specs.Keys.{same_table}
+use Rattle.vmx_regs.specs.Whole.{known}
+use Rattle.vmx_regs.specs.Plays.{device_knows}
+use Rattle.vmx_regs.proofs.Seen.{parts_join, load_allows}
+use Rattle.vmx_regs.proofs.MaskSeats.{driver_note_heard}
 use Rattle.vmx_regs.proofs.Notes.{hears_driver_keeps, tells_device}
 use Rattle.vmx_regs.proofs.ends.DeviceRegs.hear.Goals as goal
 
@@ -12,9 +13,9 @@ join_seat-requires g c = let me = c.args.self.now in let is = c.into_seat-seat.e
   search (rules, same),
   search rules,
   search rules,
-  calls_join (Kept g.E.Handed.handed) _ _ _ _ _ _ (hears_driver_keeps _ _ _ _ _ me.role.1 me.role.0 (sym (ap (λ vs. (known vs).tells_commands) is) ∙ c.requires.driver.0) (sym (ap (λ vs. (known vs).tells_served) is) ∙ c.requires.driver.1)),
+  parts_join g.E.Handed.handed _ _ _ _ _ _ _ (hears_driver_keeps _ _ _ _ _ me.role.1 me.role.0 (sym (ap (λ vs. (known vs).tells_commands) is) ∙ c.requires.driver.0) (sym (ap (λ vs. (known vs).tells_served) is) ∙ c.requires.driver.1)) (driver_note_heard _ _ _ _ _),
 )
 
 pub load-requires : goal.load-requires
 load-requires g c = let me = c.args.self.now in let now = c.join_seat.ensures.2 in
-    (search rules, search rules, load_allows (Kept g.E.Handed.handed) device_heard _ _ _ _ (tells_device _ _ _ _ (ap (λ m. m.0.calls.serves) now ∙ me.role.1)))
+    (search rules, search rules, load_allows g.E.Handed.handed device_knows _ _ _ _ _ (omega arith) (tells_device _ _ _ _ (ap (λ m. m.0.calls.serves) now ∙ me.role.1)))
