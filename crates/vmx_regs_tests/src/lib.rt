@@ -1,0 +1,10 @@
+//! A device and a driver as small as they can be, over the registers, and the tests of the registers. The machine shows that the
+//! contracts of the two sides are enough for both; no other crate stands on it.
+#![tactic(auto)]
+
+mod machine;
+
+pub use machine::{Counted, SmallMachine, serve, take_back, update_with};
+
+#[cfg(test)]
+mod tests;
