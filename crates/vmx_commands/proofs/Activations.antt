@@ -6,6 +6,7 @@ use Rattle.vmx_shared_area.specs.declared.setup.Setup.{Setup}
 use Rattle.vmx_device_state.specs.ImageSetup.{image_setup}
 use Rattle.vmx_device_state.specs.DeviceState.{DeviceState, Idle, fault_number, counts_answer, activate_answer}
 use Rattle.vmx_device_state.specs.Agree.{setup_agrees}
+use Rattle.vmx_device_state.specs.declared.answers.TheConstants.{OTHER_ENDS}
 use Rattle.vmx_commands.specs.Views.{EndsView, ActiveView, counts_in, state_by}
 
 pub is_idle : {A : Type 0} (f : A → ActiveView) (o : Option A) → is_some o ≡ false → state_by (option_map f o) ≡ Idle
@@ -14,7 +15,7 @@ is_idle f (Some a) e = absurd (true≢false e)
 
 -- 0 or 11, by whether the numbers of ends are the setup's
 abbrev pub answer_by : Bool → ℕ
-answer_by b = if b then 0 else 11
+answer_by b = if b then 0 else OTHER_ENDS
 
 by_counts : (d : DeviceState) (bs : List ℕ) (s : Setup) (o : Option EndsView) (e : EndsView) → d ≡ Idle → Reads bs (Ok s) → o ≡ Some e
     → activate_answer d bs (counts_in o) ≡ answer_by (length e.tx == s.tx_queues && length e.rx == s.rx_queues)

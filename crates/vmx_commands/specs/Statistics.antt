@@ -6,6 +6,7 @@ use Rattle.vmx_shared_area.specs.declared.stats.Side.{Side}
 use Rattle.vmx_shared_area.specs.declared.stats.Side.TheVariants.{Tx, Rx}
 use Rattle.vmx_commands.specs.declared.statistics.Count.{Count}
 use Rattle.vmx_commands.specs.declared.statistics.Count.TheVariants.{Frame, NoBuffer, Error, Discard}
+use Rattle.vmx_commands.specs.declared.statistics.TheConstants.{UNICAST_FRAMES, MULTICAST_FRAMES, BROADCAST_FRAMES, TX_ERRORS, TX_DISCARDS, RX_NO_BUFFERS, RX_ERRORS}
 use Rattle.vmx_commands.specs.Views.{MachineView}
 
 -- a count stands still at its last value
@@ -21,18 +22,18 @@ raised = raised_by still
 
 -- where the frames of a class are counted; their bytes stand behind them
 abbrev pub frames_at : Class → ℕ
-frames_at Unicast = 2
-frames_at Multicast = 4
-frames_at Broadcast = 6
+frames_at Unicast = UNICAST_FRAMES
+frames_at Multicast = MULTICAST_FRAMES
+frames_at Broadcast = BROADCAST_FRAMES
 
 -- the ten counts after one thing more: a frame and its bytes by its class; transmit has errors and discards last, receive frames without buffer and errors
 abbrev pub counted_by : (ℕ → ℕ) → Side → Count → List ℕ → List ℕ
 counted_by keep side (Frame class bytes) counts = raised_by keep (frames_at class + 1) bytes (raised_by keep (frames_at class) 1 counts)
-counted_by keep Tx Error counts = raised_by keep 8 1 counts
-counted_by keep Tx Discard counts = raised_by keep 9 1 counts
+counted_by keep Tx Error counts = raised_by keep TX_ERRORS 1 counts
+counted_by keep Tx Discard counts = raised_by keep TX_DISCARDS 1 counts
 counted_by keep Tx NoBuffer counts = counts
-counted_by keep Rx NoBuffer counts = raised_by keep 8 1 counts
-counted_by keep Rx Error counts = raised_by keep 9 1 counts
+counted_by keep Rx NoBuffer counts = raised_by keep RX_NO_BUFFERS 1 counts
+counted_by keep Rx Error counts = raised_by keep RX_ERRORS 1 counts
 counted_by keep Rx Discard counts = counts
 
 abbrev pub counted : Side → Count → List ℕ → List ℕ

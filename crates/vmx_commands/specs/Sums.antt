@@ -6,6 +6,7 @@ use Rattle.vmx_shared_area.specs.declared.stats.Side.{Side}
 use Rattle.vmx_shared_area.specs.declared.stats.Side.TheVariants.{Tx, Rx}
 use Rattle.vmx_commands.specs.declared.statistics.Count.{Count}
 use Rattle.vmx_commands.specs.declared.statistics.Count.TheVariants.{Frame, NoBuffer, Error, Discard}
+use Rattle.vmx_commands.specs.declared.statistics.TheConstants.{TX_ERRORS, TX_DISCARDS, RX_NO_BUFFERS, RX_ERRORS}
 use Rattle.vmx_commands.specs.Views.{MachineView}
 use Rattle.vmx_commands.specs.Statistics.{still, raised_by, raised, frames_at, counted, summed, stats_on, after_count, AreSumsAfter}
 
@@ -25,11 +26,11 @@ raised_still place n sums =
 pub counts_are_sums : (side : Side) (what : Count) (sums : List ℕ) → counted side what (map still sums) ≡ map still (summed side what sums)
 counts_are_sums side (Frame class bytes) sums =
     ap (raised (frames_at class + 1) bytes) (raised_still (frames_at class) 1 sums) ∙ raised_still (frames_at class + 1) bytes (raised_by (λ k. k) (frames_at class) 1 sums)
-counts_are_sums Tx Error sums = raised_still 8 1 sums
-counts_are_sums Tx Discard sums = raised_still 9 1 sums
+counts_are_sums Tx Error sums = raised_still TX_ERRORS 1 sums
+counts_are_sums Tx Discard sums = raised_still TX_DISCARDS 1 sums
 counts_are_sums Tx NoBuffer sums = refl
-counts_are_sums Rx NoBuffer sums = raised_still 8 1 sums
-counts_are_sums Rx Error sums = raised_still 9 1 sums
+counts_are_sums Rx NoBuffer sums = raised_still RX_NO_BUFFERS 1 sums
+counts_are_sums Rx Error sums = raised_still RX_ERRORS 1 sums
 counts_are_sums Rx Discard sums = refl
 
 -- the counts of the queue on which a thing more was counted

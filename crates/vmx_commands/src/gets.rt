@@ -3,47 +3,45 @@
 //! GET_CONF_INTR.
 
 ghost use Rattle.std.specs.Prelude.{◌≡◌, ◌+◌, ◌*◌, ◌<◌, ◌^◌, take, drop};
+ghost use Rattle.vmx_layout.specs.Command.{number_of};
 ghost use Rattle.vmx_device_state.specs.Answers.{low_first, get_answer};
 
-pub(crate) const GET_QUEUE_STATUS: u32 = 0xf00d_0000;
-
-pub(crate) const GET_STATS: u32 = 0xf00d_0001;
-
-const GET_LINK: u32 = 0xf00d_0002;
-
-const GET_PERM_MAC_LO: u32 = 0xf00d_0003;
-
-const GET_PERM_MAC_HI: u32 = 0xf00d_0004;
-
-const GET_DID_LO: u32 = 0xf00d_0005;
-
-const GET_DID_HI: u32 = 0xf00d_0006;
-
-const GET_CONF_INTR: u32 = 0xf00d_0008;
-
-/// Bit 0 says that the link is up, the upper 16 bits are its speed in Mb/s.
-const LINK_UP: u32 = 0x2710_0001;
-
-/// The low and the high half of the device's number.
-const DEVICE_LOW: u32 = 0x07b0;
-
-const DEVICE_HIGH: u32 = 1;
-
-/// MSI-X in bits 0 and 1, the automatic mask mode in bits 2 and 3.
-const INTERRUPTS: u32 = 3;
+use vmx_device_state::{DEVICE_HIGH, DEVICE_LOW, LINK_UP, MSI_X};
+use vmx_layout::Command;
 
 /// The value that a device with this permanent address answers; 0 where no value is asked for.
 pub(crate) fn value_of(mac: &[u8; 6], number: u32) -> u32
     ensures value { result ≡ get_answer mac.now number }
 {
-    match number {
-        GET_LINK => LINK_UP,
-        GET_PERM_MAC_LO => low_bytes(mac),
-        GET_PERM_MAC_HI => high_bytes(mac),
-        GET_DID_LO => DEVICE_LOW,
-        GET_DID_HI => DEVICE_HIGH,
-        GET_CONF_INTR => INTERRUPTS,
-        _ => 0,
+    match Command::of(number) {
+        None => 0,
+        Some(command) => value_by(mac, command),
+    }
+}
+
+fn value_by(mac: &[u8; 6], command: Command) -> u32
+    ensures value { result ≡ get_answer mac.now (number_of command) }
+{
+    match command {
+        Command::GetLink => LINK_UP,
+        Command::GetPermMacLo => low_bytes(mac),
+        Command::GetPermMacHi => high_bytes(mac),
+        Command::GetDidLo => DEVICE_LOW,
+        Command::GetDidHi => DEVICE_HIGH,
+        Command::GetConfIntr => MSI_X,
+        Command::GetQueueStatus => 0,
+        Command::GetStats => 0,
+        Command::GetDevExtraInfo => 0,
+        Command::ActivateDev => 0,
+        Command::QuiesceDev => 0,
+        Command::ResetDev => 0,
+        Command::UpdateRxMode => 0,
+        Command::UpdateMacFilters => 0,
+        Command::UpdateVlanFilters => 0,
+        Command::UpdateRssidt => 0,
+        Command::UpdateIml => 0,
+        Command::UpdatePmcfg => 0,
+        Command::UpdateFeature => 0,
     }
 }
 

@@ -1,26 +1,20 @@
 //! The machine that answers commands.
 
 ghost use Rattle.std.specs.Prelude.{◌≡◌, ◌==◌, ◌&&◌, if◌then◌else◌, None, length};
-ghost use Rattle.vmx_device_state.specs.DeviceState.{check_of as number_of_check};
 ghost use Rattle.vmx_commands.specs.Views.{new_machine};
 
-use crate::gets::{GET_QUEUE_STATUS, GET_STATS, value_of};
+use crate::errors::error_number;
+use crate::gets::value_of;
 use crate::images::{write_all_stats, write_all_status};
-use crate::statistics::{Count, count_in, nothing_counted};
+use crate::statistics::{Count, QUEUES, count_in, nothing_counted};
 use std::marker::Model;
-use vmx_device_state::{Order, Part, update_of};
-use vmx_ends::{Ends, Fabric};
+use vmx_device_state::{
+    ALREADY_ACTIVE, OTHER_ENDS, Order, Part, UNKNOWN_COMMAND, check_of, update_of,
+};
+use vmx_ends::{EndFault, Ends, Fabric};
+use vmx_layout::{Command, MAX_QUEUES};
 use vmx_regs::Bag;
 use vmx_shared_area::{Image, Setup, Side, Stats, read};
-
-/// The answer to a number that no command has.
-const UNKNOWN: u32 = 0xffff_ffff;
-
-/// The answer to an activation of an active device.
-const ALREADY_ACTIVE: u32 = 10;
-
-/// The answer where the bag has not the ends that the command wants.
-const OTHER_ENDS: u32 = 11;
 
 /// Whether a device is activated.
 #[derive(Clone, Copy, Debug, PartialEq, Eq)]
@@ -36,25 +30,29 @@ struct Activated<F: Fabric> {
     ends: Ends<F>,
 }
 
-/// A device's state, its queue ends and its statistics.
+/// A device's state, its queue ends, its statistics and the errors of its queues.
 #[derive(Drop)]
 pub struct Machine<F: Fabric> {
     mac: [u8; 6],
     active: Option<Activated<F>>,
-    tx: [Stats; 8],
-    rx: [Stats; 8],
+    tx: [Stats; QUEUES],
+    rx: [Stats; QUEUES],
+    // Errors outlive an activation: only a reset clears them.
+    tx_stopped: [Option<u32>; QUEUES],
+    rx_stopped: [Option<u32>; QUEUES],
 }
 
 impl<F: Fabric> Model for Machine<F> {
     ghost use Rattle.std.specs.Prelude.{◌≡◌, length, map, option_map};
     ghost use Rattle.vmx_device_state.specs.SetupView.{setup_view};
+    ghost use Rattle.vmx_layout.specs.declared.register.TheConstants.{MAX_QUEUES};
     ghost use Rattle.vmx_commands.specs.Views.{MachineView, ends_view};
 
     ghost Value = { MachineView };
 
-    ghost view = { λ m. record { mac = m.mac; active = option_map (λ a. record { setup = setup_view a.setup; ends = ends_view F.TxDevice.view F.RxDevice.view a.ends }) m.active; tx_stats = map (λ s. s.counts) m.tx; rx_stats = map (λ s. s.counts) m.rx } };
+    ghost view = { λ m. record { mac = m.mac; active = option_map (λ a. record { setup = setup_view a.setup; ends = ends_view F.TxDevice.view F.RxDevice.view a.ends }) m.active; tx_stats = map (λ s. s.counts) m.tx; rx_stats = map (λ s. s.counts) m.rx; tx_stopped = m.tx_stopped; rx_stopped = m.rx_stopped } };
 
-    ghost invariant = { λ m. (length m.tx ≡ 8) × (length m.rx ≡ 8) };
+    ghost invariant = { λ m. (length m.tx ≡ MAX_QUEUES) × (length m.rx ≡ MAX_QUEUES) × (length m.tx_stopped ≡ MAX_QUEUES) × (length m.rx_stopped ≡ MAX_QUEUES) };
 }
 
 impl<F: Fabric> Machine<F> {
@@ -69,7 +67,8 @@ impl<F: Fabric> Machine<F> {
     ghost use Rattle.vmx_layout.specs.declared.command.Command.TheVariants.{GetStats};
     ghost use Rattle.std.specs.Borrow.{LendsIf, sem};
     ghost use Rattle.vmx_device_state.specs.SetupView.{setup_view};
-    ghost use Rattle.vmx_commands.specs.Views.{ends_view, ends_in, handed_of, counts_in, state_of, setup_of, ends_of, with_ends};
+    ghost use Rattle.vmx_commands.specs.Views.{Stays, ends_view, ends_in, handed_of, counts_in, state_of, setup_of, ends_of, with_ends, no_errors};
+    ghost use Rattle.vmx_commands.specs.Stopped.{IsInUse, error_of, error_on, after_stop, errors_after};
     ghost use Rattle.vmx_commands.specs.States.{state_name};
     ghost use Rattle.vmx_commands.specs.Statistics.{stats_on, after_count, IsCounted, AreSumsAfter};
     ghost use Rattle.vmx_commands.specs.contracts.machine.Machine.{the_row as machine_row};
@@ -82,18 +81,41 @@ impl<F: Fabric> Machine<F> {
         Machine {
             mac,
             active: None,
-            tx: [nothing_counted(); 8],
-            rx: [nothing_counted(); 8],
+            tx: [nothing_counted(); QUEUES],
+            rx: [nothing_counted(); QUEUES],
+            tx_stopped: [None; QUEUES],
+            rx_stopped: [None; QUEUES],
         }
     }
 
     /// Answers a command, and gives its bag back. An activation that is answered 0 takes the ends out of the bag, and a quiesce or
-    /// reset of an active machine gives them back; GET_STATS and GET_QUEUE_STATUS write into the image of an active one. The ends
-    /// that the machine holds must be whole.
+    /// reset of an active machine gives them back; GET_STATS and GET_QUEUE_STATUS write into the image of an active one. A reset that
+    /// is answered 0 clears the errors of all queues; no other command changes one. The ends that the machine holds must be whole.
     ///
     /// A set command is answered 0, or by the first check that its image fails, 1 to 9; by 10, where an active machine is to be
     /// activated; by 11, where the bag has not the ends that it must have; an unknown one by 0xFFFFFFFF.
     pub fn apply(&mut self, command: u32, bag: Bag<Ends<F>>) -> (u32, Bag<Ends<F>>)
+        requires whole { IsWhole (option_map handed_of (ends_of self.old)) }
+        ensures answer { result.0 ≡ answer_to self.old.mac (state_of self.old) command bag.image (counts_in (ends_in F.TxDevice.view F.RxDevice.view bag)) }
+        ensures state { state_of self.new ≡ after_answer (state_of self.old) command bag.image result.0 }
+        ensures held { ends_of self.new ≡ ends_held (deal_of command result.0) (ends_of self.old) (ends_in F.TxDevice.view F.RxDevice.view bag) }
+        ensures kept { self.new ≡ record self.old { active = self.new.active; tx_stopped = self.new.tx_stopped; rx_stopped = self.new.rx_stopped } }
+        ensures stays { Stays self.old self.new }
+        ensures tx_errors { self.new.tx_stopped ≡ errors_after command result.0 self.old.tx_stopped }
+        ensures rx_errors { self.new.rx_stopped ≡ errors_after command result.0 self.old.rx_stopped }
+        ensures image { result.1.image ≡ image_back self.old command bag.image }
+        ensures told { command ≡ number_of GetStats → TellsStats (state_of self.old) self.old result.1.image }
+        ensures ends { ends_in F.TxDevice.view F.RxDevice.view result.1 ≡ ends_back (deal_of command result.0) (ends_of self.old) (ends_in F.TxDevice.view F.RxDevice.view bag) }
+    {
+        let (value, bag) = self.obey(command, bag);
+        if command == Command::ResetDev.number() && value == 0 {
+            self.clear_errors();
+        }
+        (value, bag)
+    }
+
+    /// The same, but for the errors, which stay.
+    fn obey(&mut self, command: u32, bag: Bag<Ends<F>>) -> (u32, Bag<Ends<F>>)
         requires whole { IsWhole (option_map handed_of (ends_of self.old)) }
         ensures answer { result.0 ≡ answer_to self.old.mac (state_of self.old) command bag.image (counts_in (ends_in F.TxDevice.view F.RxDevice.view bag)) }
         ensures state { state_of self.new ≡ after_answer (state_of self.old) command bag.image result.0 }
@@ -105,18 +127,25 @@ impl<F: Fabric> Machine<F> {
     {
         match Order::of(command) {
             Order::Activate => self.activate(bag),
-            Order::Stop => self.stop(bag),
+            Order::Stop => self.quiesce(bag),
             Order::Update { part } => {
                 let value = self.update(part, &bag.image);
                 (value, bag)
             }
-            Order::Unknown => (UNKNOWN, bag),
+            Order::Unknown => (UNKNOWN_COMMAND, bag),
             Order::Get => {
                 let Bag { mut image, ends } = bag;
                 self.write_back(command, &mut image);
                 (value_of(&self.mac, command), Bag { image, ends })
             }
         }
+    }
+
+    fn clear_errors(&mut self)
+        ensures cleared { self.new ≡ record self.old { tx_stopped = no_errors; rx_stopped = no_errors } }
+    {
+        self.tx_stopped = [None; QUEUES];
+        self.rx_stopped = [None; QUEUES];
     }
 
     fn activate(&mut self, bag: Bag<Ends<F>>) -> (u32, Bag<Ends<F>>)
@@ -148,7 +177,7 @@ impl<F: Fabric> Machine<F> {
         }
     }
 
-    fn stop(&mut self, bag: Bag<Ends<F>>) -> (u32, Bag<Ends<F>>)
+    fn quiesce(&mut self, bag: Bag<Ends<F>>) -> (u32, Bag<Ends<F>>)
         ensures answer { result.0 ≡ stop_answer (state_of self.old) (counts_in (ends_in F.TxDevice.view F.RxDevice.view bag)) }
         ensures state { state_of self.new ≡ (if result.0 == 0 then Idle else state_of self.old) }
         ensures held { ends_of self.new ≡ (if result.0 == 0 then None else ends_of self.old) }
@@ -205,16 +234,23 @@ impl<F: Fabric> Machine<F> {
         if let Some(active) = &self.active {
             let tx = u32::from(active.setup.tx_queues);
             let rx = u32::from(active.setup.rx_queues);
-            if command == GET_STATS {
+            if command == Command::GetStats.number() {
                 write_all_stats(image, tx, Side::Tx, &self.tx, tx);
                 write_all_stats(image, tx, Side::Rx, &self.rx, rx);
                 return;
             }
-            if command == GET_QUEUE_STATUS {
-                write_all_status(image, tx, Side::Tx, tx);
-                write_all_status(image, tx, Side::Rx, rx);
+            if command == Command::GetQueueStatus.number() {
+                write_all_status(image, tx, Side::Tx, &self.tx_stopped, tx);
+                write_all_status(image, tx, Side::Rx, &self.rx_stopped, rx);
             }
         }
+    }
+
+    /// The permanent address.
+    pub fn mac(&self) -> [u8; 6]
+        ensures mac { result ≡ self.now.mac }
+    {
+        self.mac
     }
 
     pub fn state(&self) -> State
@@ -257,7 +293,7 @@ impl<F: Fabric> Machine<F> {
 
     /// Counts one thing more on a queue, below 8. A transmit queue lacks no buffer, and a receive queue discards nothing.
     pub fn count(&mut self, side: Side, queue: u32, what: Count)
-        requires queue { queue < 8 }
+        requires queue { queue < MAX_QUEUES }
         requires what { IsCounted side what }
         ensures counted { self.new ≡ after_count side queue what self.old }
         ensures sums { AreSumsAfter side queue what self.old self.new }
@@ -268,9 +304,35 @@ impl<F: Fabric> Machine<F> {
         }
     }
 
+    /// Stops a queue of the active setup by the number of a fault: 1 for `Field`, 2 for `Offload`, 3 for `Chain`, 4 for `Size` and 5
+    /// for `Address`. It is stopped until a reset; where it is stopped already, the newer number stands.
+    pub fn stop(&mut self, side: Side, queue: u32, fault: &EndFault)
+        requires queue { IsInUse side queue (state_of self.old) }
+        ensures stopped { self.new ≡ after_stop side queue (error_of fault.now) self.old }
+    {
+        // The type's facts: a setup has at most 8 queues a side.
+        let _active = &self.active;
+        let error = Some(error_number(fault));
+        match side {
+            Side::Tx => self.tx_stopped[queue as usize] = error,
+            Side::Rx => self.rx_stopped[queue as usize] = error,
+        }
+    }
+
+    /// The number of the error by which a queue, below 8, is stopped; None exactly where it is not stopped.
+    pub fn stopped(&self, side: Side, queue: u32) -> Option<u32>
+        requires queue { queue < MAX_QUEUES }
+        ensures stopped { result ≡ error_on side self.now queue }
+    {
+        match side {
+            Side::Tx => self.tx_stopped[queue as usize],
+            Side::Rx => self.rx_stopped[queue as usize],
+        }
+    }
+
     /// The statistics of a queue, below 8: of all activations together.
     pub fn stats(&self, side: Side, queue: u32) -> Stats
-        requires queue { queue < 8 }
+        requires queue { queue < MAX_QUEUES }
         ensures stats { result.counts ≡ slice_index_or (stats_on side self.now) queue [] }
     {
         match side {
@@ -285,18 +347,4 @@ fn has_counts<F: Fabric>(ends: &Ends<F>, setup: &Setup) -> bool
     ensures counts { result ≡ (length ends.now.tx == setup.now.tx_queues) && (length ends.now.rx == setup.now.rx_queues) }
 {
     ends.tx.len() == setup.tx_queues as usize && ends.rx.len() == setup.rx_queues as usize
-}
-
-/// The number of the check that an update makes; the VLAN table and the levels have none.
-fn check_of(part: Part) -> u32
-    ensures number { result ≡ number_of_check part }
-{
-    match part {
-        Part::Mode => 7,
-        Part::Macs => 7,
-        Part::Vlans => 0,
-        Part::Table => 8,
-        Part::Levels => 0,
-        Part::Features => 8,
-    }
 }
