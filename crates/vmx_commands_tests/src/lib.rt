@@ -1,0 +1,5 @@
+//! The tests of the command machine, over the queue ends of vmx_lists. No other crate stands on this one.
+#![tactic(auto)]
+
+#[cfg(test)]
+mod tests;
