@@ -1,5 +1,5 @@
 -- The set commands in a guest's journal of the serial run are its plan's, each answered 0: the first activation's, those of its actions in their order, and the closing quiesce's.
-use Rattle.std.proofs.Common.{◌≡◌, ℕ, zero, suc, ◌+◌, ◌≤◌, ◌≢◌, List, [], ◌∷◌, ◌++◌, length, map, append-nil, append_assoc, refl, ap, sym, ◌∙◌, subst, arith, nat_eq, nat_le, not, true, false, Bool, Option, Some, None, inl, inr, if◌then◌else◌, ◌&&◌}
+use Rattle.std.proofs.Common.{◌≡◌, ℕ, zero, suc, ◌+◌, ◌-◌, ◌≤◌, ◌≢◌, List, [], ◌∷◌, ◌++◌, length, map, append-nil, append_assoc, refl, ap, sym, ◌∙◌, subst, arith, nat_eq, nat_le, not, true, false, Bool, Option, Some, None, inl, inr, if◌then◌else◌, ◌&&◌}
 use Rattle.std.specs.Prelude.{nat_lt, ⊤, is_some, max}
 use Rattle.std.proofs.Math.Nat.{le-max_left, le-max_right}
 use Rattle.std.proofs.lemmas.Bool.{and_parts}
@@ -18,8 +18,8 @@ use Rattle.vmx_model.specs.Plan.{Ask, deed_asks, after_script, first_setup, acti
 use Rattle.vmx_model.specs.Account.{asked}
 use Rattle.vmx_model.specs.Views.{GuestView, RecordView}
 use Rattle.vmx_model.specs.Record.{HasLists}
-use Rattle.vmx_model.specs.Serial.{Seat, active_setting, quiet_setting, acted, arrived, done, activated, quieted, set_command, polled_if, drained, polls, poll, pending, fate_at, last_at, last_number, closed, serial_run}
-use Rattle.vmx_model.proofs.Entries.{drained_entries}
+use Rattle.vmx_model.specs.Serial.{Seat, active_setting, quiet_setting, acted, arrived, done, activated, quieted, set_command, polled_if, emptied, drained, polls, poll, pending, fate_at, last_at, last_number, closed, serial_run}
+use Rattle.vmx_model.proofs.Entries.{emptied_entries, drained_entries}
 use Rattle.vmx_model.proofs.Seats.{Bears, Goes, record_at}
 
 -- ------------------------------------------------------------ the commands of actions
@@ -132,13 +132,25 @@ all_before m (a ∷ rest) le =
     let e : nat_lt a.at m ≡ true = grind (arith, nat_tests) in
     rw e (ap (λ (xs : List Action). a ∷ xs) (all_before m rest (omega (arith, le, le-max_right (a.at + 1) (last_at rest)))))
 
+-- of three numbers the greatest
+middle_first : (a b c : ℕ) → b ≤ max (max a b) c
+middle_first a b c = omega (arith, le-max_right a b, le-max_left (max a b) c)
+
+last_first : (m a c : ℕ) → m ≤ c → m ≤ max a c
+last_first m a c le = omega (arith, le, le-max_right a c)
+
+one_inside : {X : Type 0} (x y : X) → Some x ≡ Some y → x ≡ y
+one_inside x y e = cc e
+
+none_inside : {X : Type 0} (x : X) → None ≡ Some x → ⊥
+none_inside x e = cc e
+
 -- the run goes past each script
 past_script : (gs : List GuestPlan) (g : ℕ) (p : GuestPlan) → slice_get gs g ≡ Some p → last_at p.script ≤ last_number gs
-past_script [] g p at = absurd (cc at)
+past_script [] g p at = absurd (none_inside p at)
 past_script (x ∷ gs) zero p at =
-    let same : x ≡ p = cc at in
-    subst (λ (y : GuestPlan). last_at y.script ≤ last_number (x ∷ gs)) same (omega (arith, le-max_right (length x.capture.records) (last_at x.script), le-max_left (max (length x.capture.records) (last_at x.script)) (last_number gs)))
-past_script (x ∷ gs) (suc g) p at = omega (arith, past_script gs g p at, le-max_right (max (length x.capture.records) (last_at x.script)) (last_number gs))
+    subst (λ (y : GuestPlan). last_at y.script ≤ last_number (x ∷ gs)) (one_inside x p at) (middle_first (length x.capture.records) (last_at x.script) (last_number gs))
+past_script (x ∷ gs) (suc g) p at = last_first (last_at p.script) (max (length x.capture.records) (last_at x.script)) (last_number gs) (past_script gs g p at)
 
 -- ------------------------------------------------------------ a journal
 
@@ -178,8 +190,16 @@ pick_second P false x y e k = k
 activated_did : (port : ℕ) (g : GuestPlan) (cs : List ℕ) (s : Seat) → told_in s.entries ≡ answered cs → Did (cs ++ activate_dev ∷ []) false (activated port g s)
 activated_did port g cs s h = (setting_push s.entries activate_dev (Some (length s.setups)) cs refl h, refl)
 
+polls_active : (a n : ℕ) (s : Seat) → (polls a n s).active ≡ s.active
+polls_active a zero s = refl
+polls_active a (suc n) s = polls_active a n (poll a s)
+
+emptied_active : (s : Seat) → (emptied s).active ≡ s.active
+unfolding emptied
+emptied_active s = polls_active (s.begun - 1) (pending s.rx) s
+
 quieted_did : (number : ℕ) (cs : List ℕ) (s : Seat) → is_set number ≡ true → told_in s.entries ≡ answered cs → Did (cs ++ number ∷ []) true (quieted number s)
-quieted_did number cs s is h = (setting_push (drained s).entries number None cs is (rw (drained_entries s) h), refl)
+quieted_did number cs s is h = (ap told_in (emptied_entries (record (quiet_setting number s) { active = false })) ∙ setting_push s.entries number None cs is h, (emptied_active (record (quiet_setting number s) { active = false })))
 
 commanded_did : (number : ℕ) (cs : List ℕ) (quiet : Bool) (s : Seat) → is_set number ≡ true → Did cs quiet s → Did (cs ++ number ∷ []) quiet (set_command s number)
 commanded_did number cs quiet s is h = pick (Did (cs ++ number ∷ []) quiet) s.active (active_setting number s) (quiet_setting number s)
@@ -203,13 +223,9 @@ actions_did port g (a ∷ rest) cs quiet s turn h =
     subst (λ xs. Did xs (is_quiet (quiet_after quiet a.deed) rest) (fold (λ s (a : Action). done port g a.deed s) (done port g a.deed s) rest)) (append_assoc cs (deed_commands a.deed) (cmds rest))
     (actions_did port g rest (cs ++ deed_commands a.deed) (quiet_after quiet a.deed) (done port g a.deed s) turn.1 (done_did port g cs quiet a.deed s turn.0 h))
 
-polls_active : (a n : ℕ) (s : Seat) → (polls a n s).active ≡ s.active
-polls_active a zero s = refl
-polls_active a (suc n) s = polls_active a n (poll a s)
-
 drained_active : (s : Seat) → (drained s).active ≡ s.active
 unfolding drained
-drained_active s = pick (λ (x : Seat). x.active ≡ s.active) s.active (polls _ (pending s.rx) s) s (polls_active _ (pending s.rx) s) refl
+drained_active s = pick (λ (x : Seat). x.active ≡ s.active) s.active (emptied s) s (emptied_active s) refl
 
 drained_did : (cs : List ℕ) (quiet : Bool) (s : Seat) → Did cs quiet s → Did cs quiet (drained s)
 drained_did cs quiet s h = (ap told_in (drained_entries s) ∙ h.0, drained_active s ∙ h.1)

@@ -19,7 +19,7 @@ use Rattle.vmx_model.specs.Serial.{active_setting, quiet_setting, Seat, arrived,
 use Rattle.vmx_model.proofs.Lists.{count-append}
 use Rattle.vmx_model.proofs.Commands.{tells_commands}
 use Rattle.vmx_model.proofs.Seats.{Bears, Goes, record_at}
-use Rattle.vmx_model.proofs.Entries.{drained_entries, opens_all, never_full}
+use Rattle.vmx_model.proofs.Entries.{emptied_entries, drained_entries, opens_all, never_full}
 
 -- ------------------------------------------------------------ the commands of actions
 
@@ -106,7 +106,7 @@ activated_kept : (script : List Action) (k port : ℕ) (g : GuestPlan) (s : Seat
 activated_kept script k port g s h = setting_push script k s.entries activate_dev 0 (Some (length s.setups)) h
 
 quieted_kept : (script : List Action) (k number : ℕ) (s : Seat) → Kept script (k + 1) s → Kept script k (quieted number s)
-quieted_kept script k number s h = setting_push script k (drained s).entries number 0 None (rw (drained_entries s) h)
+quieted_kept script k number s h = rw (emptied_entries (record (quiet_setting number s) { active = false })) (setting_push script k s.entries number 0 None h)
 
 commanded_kept : (script : List Action) (k number : ℕ) (s : Seat) → Kept script (k + 1) s → Kept script k (set_command s number)
 commanded_kept script k number s h = pick (Kept script k) s.active (active_setting number s) (quiet_setting number s) (setting_push script k s.entries number 0 (Some (length s.setups)) h) (setting_push script k s.entries number 0 None h)
@@ -155,7 +155,7 @@ goes : (g : ℕ) (p : GuestPlan) → Goes (Awaits p) g p
 goes g p = record { first = λ port. (omega (arith, later_all p.script), (λ t. absurd t, tt)); acts = acted_awaits p g; bears = λ n. bears p.script (costs (later n p.script)) }
 
 closed_kept : (script : List Action) (k : ℕ) (s : Seat) → Kept script k s → EachAfter (Before script) [] (closed s).entries
-closed_kept script k s h = pick (λ (x : Seat). EachAfter (Before script) [] x.entries) s.active (quieted quiesce_dev s) s (setting_last script (drained s).entries quiesce_dev 0 None (rw (drained_entries s) h.1)) h.1
+closed_kept script k s h = pick (λ (x : Seat). EachAfter (Before script) [] x.entries) s.active (quieted quiesce_dev s) s (rw (emptied_entries (record (quiet_setting quiesce_dev s) { active = false })) (setting_last script s.entries quiesce_dev 0 None h.1)) h.1
 
 -- in a record with the lists of the run, where the plan closes with a quiesce
 ends_with_command : (plan : Plan) (r : RecordView) → HasLists r (serial_run plan) → (g : ℕ) (p : GuestPlan) (v : GuestView) → slice_get plan.guests g ≡ Some p → slice_get r.guests g ≡ Some v → closes p ≡ true → EachAfter (EndsWithCommand p) [] v.entries

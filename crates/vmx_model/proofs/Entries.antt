@@ -5,16 +5,18 @@ use Rattle.vmx_model.specs.declared.deeds.Deed.TheVariants as deed
 use Rattle.vmx_model.specs.declared.journal.Entry.TheVariants as entry
 use Rattle.vmx_model.specs.declared.journal.Way.TheVariants as way
 use Rattle.vmx_model.specs.declared.sending.Sending.TheVariants as sending
+use Rattle.vmx_ends.specs.declared.frames.Sent.{Sent}
+use Rattle.vmx_model.specs.Totals.{wiring}
 use Rattle.vmx_model.specs.Types.{Plan, GuestPlan, Action, Deed, Tag, Sending, Entry, Fate}
 use Rattle.vmx_model.specs.Lists.{count, EachAfter}
-use Rattle.vmx_model.specs.Wire.{targets}
-use Rattle.vmx_model.specs.Meta.{meta_of}
+use Rattle.vmx_model.specs.Wire.{wire_form, targets}
+use Rattle.vmx_model.specs.Meta.{delivered_as}
 use Rattle.vmx_model.specs.Plan.{activate_dev, quiesce_dev, reset_dev, Captured, captured, verdict_on, deed_commands, changed}
 use Rattle.vmx_model.specs.Account.{is_set_entry}
 use Rattle.vmx_model.specs.Views.{GuestView, RecordView}
 use Rattle.vmx_model.specs.Record.{HasLists}
 use Rattle.vmx_model.specs.Left.{IsNotFull, OpensWithCommand}
-use Rattle.vmx_model.specs.Serial.{pending, active_setting, quiet_setting, World, Seat, at_number, noted, arrived, reaches, spread, sent_by, sends, acted, done, updated_by, activated, quieted, set_command, polled_if, drained, polls, poll, transmitted, marked, fate_at, turn_of, start, seats_from, closed, serial_run, last_number, pushed_on, mac_of}
+use Rattle.vmx_model.specs.Serial.{pending, active_setting, quiet_setting, World, Seat, at_number, noted, arrived, reaches, spread, sent_by, sends, acted, done, updated_by, activated, quieted, set_command, polled_if, emptied, drained, polls, poll, transmitted, marked, fate_at, turn_of, start, seats_from, closed, serial_run, last_number, pushed_on, mac_of}
 use Rattle.vmx_model.proofs.Lists.{count-append, all_weaker}
 use Rattle.vmx_model.proofs.Tags.{all_append, all_map_back}
 use Rattle.vmx_model.proofs.Copies.{all_map}
@@ -28,9 +30,13 @@ picked_entries : (b : Bool) (x s : Seat) → x.entries ≡ s.entries → (if b t
 picked_entries true x s e = e
 picked_entries false x s e = refl
 
+pub emptied_entries : (s : Seat) → (emptied s).entries ≡ s.entries
+unfolding emptied
+emptied_entries s = polls_entries (s.begun - 1) (pending s.rx) s
+
 pub drained_entries : (s : Seat) → (drained s).entries ≡ s.entries
 unfolding drained
-drained_entries s = picked_entries s.active (polls (s.begun - 1) (pending s.rx) s) s (polls_entries (s.begun - 1) (pending s.rx) s)
+drained_entries s = picked_entries s.active (emptied s) s (emptied_entries s)
 
 module _ (E : Entry → Type 0) (Q : List Entry → Type 0) (push : (es : List Entry) (e : Entry) → E e → Q es → Q (es ++ e ∷ [])) (settings : (number : ℕ) (o : Option ℕ) → E (entry.Setting number 0 o))
     (outs : (t : Tag) (to place : ℕ) → E (entry.Out t to (way.Link place))) (losts : (t : Tag) → E (entry.Lost t)) (ins : (from place : ℕ) (f : Fate) → E (entry.In from place f)) (first : Q (entry.Setting activate_dev 0 (Some 0) ∷ [])) where
@@ -48,7 +54,7 @@ module _ (E : Entry → Type 0) (Q : List Entry → Type 0) (push : (es : List E
   activated_ok port g s h = push s.entries (entry.Setting activate_dev 0 (Some (length s.setups))) (settings activate_dev (Some (length s.setups))) h
 
   quieted_ok : (number : ℕ) (s : Seat) → Ok s → Ok (quieted number s)
-  quieted_ok number s h = push (drained s).entries (entry.Setting number 0 None) (settings number None) (drained_ok s h)
+  quieted_ok number s h = subst Q (sym (emptied_entries (record (quiet_setting number s) { active = false }))) (push s.entries (entry.Setting number 0 None) (settings number None) h)
 
   commanded_ok : (s : Seat) (number : ℕ) → Ok s → Ok (set_command s number)
   commanded_ok s number h = pick_ok s.active (active_setting number s) (quiet_setting number s) (push s.entries (entry.Setting number 0 (Some (length s.setups))) (settings number (Some (length s.setups))) h) (push s.entries (entry.Setting number 0 None) (settings number None) h)
@@ -72,7 +78,7 @@ module _ (E : Entry → Type 0) (Q : List Entry → Type 0) (push : (es : List E
   polled_ok b s h = pick_ok b (drained s) s (drained_ok s h) h
 
   arrived_ok : (every : ℕ) (mac : List ℕ) (from place : ℕ) (f : List ℕ) (s : Seat) → Ok s → Ok (arrived every mac from place f s)
-  arrived_ok every mac from place f s h = polled_ok (nat_eq ((s.seen + 1) % every) 0) (record s { seen = s.seen + 1; entries = s.entries ++ entry.In from place (fate_at s mac f) ∷ []; rx = marked f (meta_of s.setup.rss f) (fate_at s mac f) s.rx }) (push s.entries (entry.In from place (fate_at s mac f)) (ins from place (fate_at s mac f)) h)
+  arrived_ok every mac from place f s h = polled_ok (nat_eq ((s.seen + 1) % every) 0) (record s { seen = s.seen + 1; entries = s.entries ++ entry.In from place (fate_at s mac f) ∷ []; rx = marked (delivered_as s.setup f) (fate_at s mac f) s.rx }) (push s.entries (entry.In from place (fate_at s mac f)) (ins from place (fate_at s mac f)) h)
 
   abbrev AllOk : World → Type 0
   AllOk w = AllByRecursion Ok w.seats
@@ -86,15 +92,15 @@ module _ (E : Entry → Type 0) (Q : List Entry → Type 0) (push : (es : List E
   spread_ok plan t f [] w h = at_number_all Ok t.guest (noted (entry.Lost t)) (λ s k. push s.entries (entry.Lost t) (losts t) k) w.seats h
   spread_ok plan t f (to ∷ tos) w h = fold_keeps AllOk (reaches plan t f) (λ w to k. reaches_ok plan t f w to k) (to ∷ tos) w h
 
-  sent_ok : (plan : Plan) (g : ℕ) (f : List ℕ) (s : Sending) (w : World) → AllOk w → AllOk (sent_by plan g f s w)
+  sent_ok : (plan : Plan) (g : ℕ) (f : Sent) (s : Sending) (w : World) → AllOk w → AllOk (sent_by plan g f s w)
   sent_ok plan g f sending.Down w h = h
   sent_ok plan g f sending.Short w h = h
   sent_ok plan g f sending.TooLong w h = h
-  sent_ok plan g f (sending.Sent a q k) w h = spread_ok plan (record { guest = g; activation = a; queue = q; place = k }) f (targets plan.guests g f) (record w { seats = at_number g (transmitted a q f) w.seats }) (at_number_all Ok g (transmitted a q f) (λ s k. k) w.seats h)
+  sent_ok plan g f (sending.Sent a q k) w h = spread_ok plan (record { guest = g; activation = a; queue = q; place = k }) (wire_form f) (targets (wiring plan.guests) g (wire_form f)) (record w { seats = at_number g (transmitted a q f) w.seats }) (at_number_all Ok g (transmitted a q f) (λ s k. k) w.seats h)
 
   sends_ok : (plan : Plan) (g : ℕ) (p : GuestPlan) (c : Option Captured) (w : World) → AllOk w → AllOk (sends plan g p c w)
   sends_ok plan g p None w h = h
-  sends_ok plan g p (Some c) w h = sent_ok plan g c.frame (verdict_on p c) w h
+  sends_ok plan g p (Some c) w h = sent_ok plan g c.posted (verdict_on p c) w h
 
   turn_of_ok : (plan : Plan) (n g : ℕ) (o : Option GuestPlan) (w : World) → AllOk w → AllOk (turn_of plan n g o w)
   turn_of_ok plan n g None w h = h

@@ -4,13 +4,12 @@ use Rattle.std.proofs.lemmas.Bool.{and_parts, and_from}
 use Rattle.std.proofs.lemmas.Bool.Decides.{nat_tests}
 use Rattle.std.specs.List.{filter, filter_map, slice_get, AllByRecursion, range_with_len}
 use Rattle.std.specs.Prelude.{nat_lt}
-use Rattle.vmx_model.specs.Types.{GuestPlan, Tag, Entry, Way}
+use Rattle.vmx_model.specs.Types.{Tag, Entry, Way}
 use Rattle.vmx_model.specs.declared.journal.Entry.TheVariants as entry
 use Rattle.vmx_model.specs.declared.journal.Fate.TheVariants as fate
 use Rattle.vmx_model.specs.declared.journal.Way.TheVariants as way
 use Rattle.vmx_model.specs.Lists.{count, IsOne, Rises, upto}
-use Rattle.vmx_switch.specs.Ports.{target_ports, is_target}
-use Rattle.vmx_model.specs.Totals.{wiring, macs_of}
+use Rattle.vmx_switch.specs.Ports.{Wiring, target_ports, is_target}
 use Rattle.vmx_model.specs.Wire.{targets}
 use Rattle.vmx_model.specs.Fates.{same_tag, ways, arrivals, way_fates, copy_fates, tag_at}
 use Rattle.vmx_model.specs.Account.{Send, send_of, of_queue, sends_on, frame_sends, planned, place_to, place_from}
@@ -93,12 +92,12 @@ kept_rise test from (suc n) = step (test from) refl (kept_rise test (from + 1) n
     step true e ih = rw e (kept_past test (from + 1) n from (omega arith), ih)
     step false e ih = rw e ih
 
-pub targets_rise : (gs : List GuestPlan) (from : ℕ) (frame : List ℕ) → Rises (λ x y. x < y) (targets gs from frame)
+pub targets_rise : (net : Wiring) (from : ℕ) (frame : List ℕ) → Rises (λ x y. x < y) (targets net from frame)
 unfolding target_ports
-targets_rise gs from frame = kept_rise (is_target (wiring gs) from frame) 0 (length (macs_of gs))
+targets_rise net from frame = kept_rise (is_target net from frame) 0 (length net.macs)
 
-pub targets_once : (gs : List GuestPlan) (from : ℕ) (frame : List ℕ) → AllByRecursion (λ x. count (λ z. nat_eq z x) (targets gs from frame) ≡ 1) (targets gs from frame)
-targets_once gs from frame = rises_once (targets gs from frame) (targets_rise gs from frame)
+pub targets_once : (net : Wiring) (from : ℕ) (frame : List ℕ) → AllByRecursion (λ x. count (λ z. nat_eq z x) (targets net from frame) ≡ 1) (targets net from frame)
+targets_once net from frame = rises_once (targets net from frame) (targets_rise net from frame)
 
 -- a frame's sends to a target, and another frame's
 same_itself : (t : Tag) → same_tag t t ≡ true
@@ -128,24 +127,24 @@ other_place g a q j k ne = let h : nat_eq j k ≡ false = grind (arith, nat_test
     let e2 : nat_eq a a ≡ true = grind (arith, nat_tests) in
     let e3 : nat_eq q q ≡ true = grind (arith, nat_tests) in rw (e1, e2, e3, h) refl
 
-planned_past : (gs : List GuestPlan) (g a q j k to : ℕ) (fs : List (List ℕ)) → k < j → count (is_copy (tag_at g a q k) to) (planned gs g a q j fs) ≡ 0
-planned_past gs g a q j k to [] lt = refl
-planned_past gs g a q j k to (f ∷ fs) lt =
-    count-append (is_copy (tag_at g a q k) to) (frame_sends (tag_at g a q j) (targets gs g f)) (planned gs g a q (j + 1) fs)
-    ∙ rw (sends_to (tag_at g a q j) (tag_at g a q k) to false (other_place g a q j k (omega arith)) (targets gs g f), planned_past gs g a q (j + 1) k to fs (omega arith)) refl
+planned_past : (net : Wiring) (g a q j k to : ℕ) (fs : List (List ℕ)) → k < j → count (is_copy (tag_at g a q k) to) (planned net g a q j fs) ≡ 0
+planned_past net g a q j k to [] lt = refl
+planned_past net g a q j k to (f ∷ fs) lt =
+    count-append (is_copy (tag_at g a q k) to) (frame_sends (tag_at g a q j) (targets net g f)) (planned net g a q (j + 1) fs)
+    ∙ rw (sends_to (tag_at g a q j) (tag_at g a q k) to false (other_place g a q j k (omega arith)) (targets net g f), planned_past net g a q (j + 1) k to fs (omega arith)) refl
 
 -- of a queue's frames the one of place k is given to each of its targets
-pub planned_count : (gs : List GuestPlan) (g a q j k to : ℕ) (fs : List (List ℕ)) (i : ℕ) (f : List ℕ) → j + i ≡ k → slice_get fs i ≡ Some f → count (is_copy (tag_at g a q k) to) (planned gs g a q j fs) ≡ count (λ z. nat_eq z to) (targets gs g f)
-planned_count gs g a q j k to [] i f e at = absurd (cc)
-planned_count gs g a q j k to (h ∷ fs) zero f e at =
+pub planned_count : (net : Wiring) (g a q j k to : ℕ) (fs : List (List ℕ)) (i : ℕ) (f : List ℕ) → j + i ≡ k → slice_get fs i ≡ Some f → count (is_copy (tag_at g a q k) to) (planned net g a q j fs) ≡ count (λ z. nat_eq z to) (targets net g f)
+planned_count net g a q j k to [] i f e at = absurd (cc)
+planned_count net g a q j k to (h ∷ fs) zero f e at =
     let same : h ≡ f = cc in
     let place : j ≡ k = omega arith in
     let here : same_tag (tag_at g a q j) (tag_at g a q k) ≡ true = subst (λ (n : ℕ). same_tag (tag_at g a q j) (tag_at g a q n) ≡ true) place (same_itself (tag_at g a q j)) in
-    count-append (is_copy (tag_at g a q k) to) (frame_sends (tag_at g a q j) (targets gs g h)) (planned gs g a q (j + 1) fs)
-    ∙ rw (sends_to (tag_at g a q j) (tag_at g a q k) to true here (targets gs g h), planned_past gs g a q (j + 1) k to fs (omega arith), same) (omega arith)
-planned_count gs g a q j k to (h ∷ fs) (suc i) f e at =
-    count-append (is_copy (tag_at g a q k) to) (frame_sends (tag_at g a q j) (targets gs g h)) (planned gs g a q (j + 1) fs)
-    ∙ rw (sends_to (tag_at g a q j) (tag_at g a q k) to false (other_place g a q j k (omega arith)) (targets gs g h)) (omega (arith, planned_count gs g a q (j + 1) k to fs i f (omega arith) at))
+    count-append (is_copy (tag_at g a q k) to) (frame_sends (tag_at g a q j) (targets net g h)) (planned net g a q (j + 1) fs)
+    ∙ rw (sends_to (tag_at g a q j) (tag_at g a q k) to true here (targets net g h), planned_past net g a q (j + 1) k to fs (omega arith), same) (omega arith)
+planned_count net g a q j k to (h ∷ fs) (suc i) f e at =
+    count-append (is_copy (tag_at g a q k) to) (frame_sends (tag_at g a q j) (targets net g h)) (planned net g a q (j + 1) fs)
+    ∙ rw (sends_to (tag_at g a q j) (tag_at g a q k) to false (other_place g a q j k (omega arith)) (targets net g h)) (omega (arith, planned_count net g a q (j + 1) k to fs i f (omega arith) at))
 
 of_queue_wide : (g a q k to : ℕ) (s : Send) → is_copy (tag_at g a q k) to s ≡ true → of_queue a q s ≡ true
 of_queue_wide g a q k to s h =
@@ -156,12 +155,12 @@ of_queue_wide g a q k to s h =
     and_from _ _ p2.0 p3.0
 
 -- a taken frame took one way to each target
-pub one_way : (gs : List GuestPlan) (g a q k to : ℕ) (es : List Entry) (fs : List (List ℕ)) (f : List ℕ) → sends_on a q es ≡ planned gs g a q 0 fs → slice_get fs k ≡ Some f → count (λ z. nat_eq z to) (targets gs g f) ≡ 1 → IsOne (ways (tag_at g a q k) to es)
-one_way gs g a q k to es fs f sends at once = one_from_length _
+pub one_way : (net : Wiring) (g a q k to : ℕ) (es : List Entry) (fs : List (List ℕ)) (f : List ℕ) → sends_on a q es ≡ planned net g a q 0 fs → slice_get fs k ≡ Some f → count (λ z. nat_eq z to) (targets net g f) ≡ 1 → IsOne (ways (tag_at g a q k) to es)
+one_way net g a q k to es fs f sends at once = one_from_length _
     (ways_count (tag_at g a q k) to es
     ∙ sym (ap length (filter_narrow (is_copy (tag_at g a q k) to) (of_queue a q) (of_queue_wide g a q k to) (filter_map send_of es)))
     ∙ ap (count (is_copy (tag_at g a q k) to)) sends
-    ∙ planned_count gs g a q 0 k to fs k f (omega arith) at
+    ∙ planned_count net g a q 0 k to fs k f (omega arith) at
     ∙ once)
 
 -- a packet that was pulled has one fate
@@ -181,17 +180,17 @@ one_of_way sender n came (way.Full look) places fits = (fate.LinkFull look, refl
 one_of_way sender n came (way.Link place) places fits = one_arrival sender place n came places fits
 
 -- a sent frame's copy has one fate
-pub one_fate : (gs : List GuestPlan) (g a q k to n : ℕ) (es came : List Entry) (fs rest frames : List (List ℕ)) (f : List ℕ) →
-    sends_on a q es ≡ planned gs g a q 0 fs → fs ++ rest ≡ frames → slice_get frames k ≡ Some f → count (λ z. nat_eq z to) (targets gs g f) ≡ 1 →
+pub one_fate : (net : Wiring) (g a q k to n : ℕ) (es came : List Entry) (fs rest frames : List (List ℕ)) (f : List ℕ) →
+    sends_on a q es ≡ planned net g a q 0 fs → fs ++ rest ≡ frames → slice_get frames k ≡ Some f → count (λ z. nat_eq z to) (targets net g f) ≡ 1 →
     filter_map (place_to to) es ≡ upto 0 n → filter_map (place_from g) came ≡ upto 0 n → IsOne (copy_fates (length fs) es came (tag_at g a q k) to)
-one_fate gs g a q k to n es came fs rest frames f sends prefix at once places arrives = step (nat_lt k (length fs)) refl
+one_fate net g a q k to n es came fs rest frames f sends prefix at once places arrives = step (nat_lt k (length fs)) refl
   where
     step : (b : Bool) → nat_lt k (length fs) ≡ b → IsOne (copy_fates (length fs) es came (tag_at g a q k) to)
     step false h = rw h (fate.Discarded, refl)
     step true h =
         let lt : k < length fs = grind (arith, nat_tests) in
         let here : slice_get fs k ≡ Some f = sym (get-append fs rest k lt) ∙ rw prefix at in
-        let way' : IsOne (ways (tag_at g a q k) to es) = one_way gs g a q k to es fs f sends here once in
+        let way' : IsOne (ways (tag_at g a q k) to es) = one_way net g a q k to es fs f sends here once in
         let fit : AllByRecursion (WayFits (λ z. z < n)) (ways (tag_at g a q k) to es) = ways_fit (λ z. z < n) (tag_at g a q k) to es (rw places (all_weaker (λ z. z < 0 + n) (λ z. z < n) (λ z lt. omega arith) (upto 0 n) (upto_below 0 n))) in
         let fits : WayFits (λ z. z < n) way'.0 = (rw way'.1 at fit).0 in
         rw (h, way'.1) (one_appended (way_fates g came way'.0) (one_of_way g n came way'.0 arrives fits))

@@ -13,12 +13,14 @@ use Rattle.vmx_model.specs.Types.{GuestPlan, Packet, Entry, Setup, Verdict, Rece
 use Rattle.vmx_model.specs.Lists.{count, Rises, EachAfter}
 use Rattle.vmx_device_state.specs.SetupView.{SetupView}
 use Rattle.vmx_model.specs.Setups.{admits}
-use Rattle.vmx_model.specs.Wire.{rx_queue, rx_choice}
+use Rattle.vmx_model.specs.Wire.{rx_queue}
 use Rattle.vmx_device_state.specs.DeviceState.{DeviceState, Idle, Active}
-use Rattle.vmx_model.specs.Views.{Arrival, GuestView}
+use Rattle.vmx_model.specs.Views.{GuestView}
+use Rattle.vmx_frame.specs.Tags.{with_tag}
+use Rattle.vmx_model.specs.Meta.{Arrival, arrival_of, delivered_as, put_back}
 use Rattle.vmx_model.specs.Journal.{Beside, IsLawful, IsShown, IsAdmitted, state_at, packet_at, activation_of, ups, is_up, fate_in}
-use Rattle.vmx_model.specs.Order.{CameUp, came_up, on_rx, received_of, on_queue, HandsUp, LiesBefore}
-use Rattle.vmx_model.specs.Account.{AccountsRx, arrival_of, deliveries, is_lying, from_queue, received_from, rx_named}
+use Rattle.vmx_model.specs.Order.{CameUp, came_up, on_rx, Handed, handed_whole, came_of, on_queue, HandsUp, LiesBefore}
+use Rattle.vmx_model.specs.Account.{AccountsRx, deliveries, is_lying, from_queue, received_from, rx_named}
 use Rattle.vmx_model.proofs.Lists.{count-append}
 use Rattle.vmx_model.proofs.Found.{Finds, found_passes, found_holds}
 use Rattle.vmx_model.proofs.Copies.{same_name, all_map}
@@ -110,28 +112,28 @@ module _ {X : Type 0} (act : X → ℕ) where
 abbrev NamedUp : List Entry → List ℕ → ℕ → ℕ → ℕ → DeviceState → Type 0
 NamedUp before frame a q k state = (s : SetupView) × (state ≡ Active s) × (a ≡ activation_of before) × (q ≡ rx_queue s.rss frame) × (k ≡ ups a q before)
 
-up_by : (before : List Entry) (s : SetupView) (frame : List ℕ) (a q k : ℕ) (w : Verdict) → IsAdmitted before s frame (fate.Up a q k) w → NamedUp before frame a q k (Active s)
-up_by before s frame a q k verdict.Yes h = (s, refl, h.0, h.1, h.2)
-up_by before s frame a q k (verdict.No r) h = absurd (cc h)
+up_by : (b : Beside) (before : List Entry) (s : SetupView) (frame : List ℕ) (a q k : ℕ) (w : Verdict) → IsAdmitted b before s frame (fate.Up a q k) w → NamedUp before frame a q k (Active s)
+up_by b before s frame a q k verdict.Yes h = (s, refl, h.0, h.1, h.2)
+up_by b before s frame a q k (verdict.No r) h = absurd (cc h)
 
-up_named : (mac : List ℕ) (before : List Entry) (frame : List ℕ) (a q k : ℕ) (state : DeviceState) → IsShown mac before frame (fate.Up a q k) state → NamedUp before frame a q k state
-up_named mac before frame a q k Idle h = absurd (cc h)
-up_named mac before frame a q k (Active s) h = up_by before s frame a q k (admits s mac frame) h
+up_named : (b : Beside) (before : List Entry) (frame : List ℕ) (a q k : ℕ) (state : DeviceState) → IsShown b before frame (fate.Up a q k) state → NamedUp before frame a q k state
+up_named b before frame a q k Idle h = absurd (cc h)
+up_named b before frame a q k (Active s) h = up_by b before s frame a q k (admits s b.mac frame) h
 
--- arrivals as they are handed up, with their places from k on
-abbrev numbered_up : ℕ → ℕ → ℕ → List Arrival → List Received
+-- arrivals as they are handed up, with their tags put back and their places from k on
+abbrev numbered_up : ℕ → ℕ → ℕ → List Arrival → List Handed
 numbered_up a q k [] = []
-numbered_up a q k (x ∷ xs) = record { activation = a; queue = q; place = k; frame = x.frame } ∷ numbered_up a q (k + 1) xs
+numbered_up a q k (x ∷ xs) = record { activation = a; queue = q; place = k; frame = with_tag x.meta.tci x.frame } ∷ numbered_up a q (k + 1) xs
 
-numbered_deliveries : (a q k : ℕ) (ds : List Delivery) → received_from a q k ds ≡ numbered_up a q k (map arrival_of ds)
+numbered_deliveries : (a q k : ℕ) (ds : List Delivery) → map handed_whole (received_from a q k ds) ≡ numbered_up a q k (map arrival_of ds)
 numbered_deliveries a q k [] = refl
-numbered_deliveries a q k (d ∷ ds) = ap (λ (xs : List Received). record { activation = a; queue = q; place = k; frame = d.frame } ∷ xs) (numbered_deliveries a q (k + 1) ds)
+numbered_deliveries a q k (d ∷ ds) = ap (λ (xs : List Handed). record { activation = a; queue = q; place = k; frame = with_tag d.meta.tci d.frame } ∷ xs) (numbered_deliveries a q (k + 1) ds)
 
 ups_last : (a q : ℕ) (before : List Entry) (e : Entry) → ups a q (before ++ e ∷ []) ≡ ups a q before + count (is_up a q) (filter_map fate_in (e ∷ []))
 ups_last a q before e = ap (count (is_up a q)) (filter_map-append fate_in before (e ∷ [])) ∙ count-append (is_up a q) (filter_map fate_in before) (filter_map fate_in (e ∷ []))
 
-abbrev lying : Beside → ℕ → ℕ → List Entry → List Received
-lying b a q es = map received_of (filter (is_lying a q) (came_up b.links b.port es))
+abbrev lying : Beside → ℕ → ℕ → List Entry → List Handed
+lying b a q es = map came_of (filter (is_lying a q) (came_up b.links b.port es))
 
 -- an entry that brings nothing up on the queue
 passed : (b : Beside) (a q : ℕ) (before : List Entry) (e : Entry) (es : List Entry) → lying b a q (e ∷ es) ≡ lying b a q es → deliveries b a q before (e ∷ es) ≡ deliveries b a q (before ++ e ∷ []) es → count (is_up a q) (filter_map fate_in (e ∷ [])) ≡ 0 →
@@ -140,8 +142,8 @@ passed b a q before e es same here none ih =
     let k : ups a q (before ++ e ∷ []) ≡ ups a q before = omega (arith, ups_last a q before e, none) in
     same ∙ ih ∙ ap (λ (n : ℕ). numbered_up a q n (deliveries b a q (before ++ e ∷ []) es)) k ∙ ap (numbered_up a q (ups a q before)) (sym here)
 
-heads : (a' a q' q k n : ℕ) (frame : List ℕ) (xs ys : List Received) → a' ≡ a → q' ≡ q → k ≡ n → xs ≡ ys → record { activation = a'; queue = q'; place = k; frame = frame } ∷ xs ≡ record { activation = a; queue = q; place = n; frame = frame } ∷ ys
-heads a' a q' q k n frame xs ys ea eq ek more = λ i. record { activation = ea i; queue = eq i; place = ek i; frame = frame } ∷ more i
+heads : (a' a q' q k n : ℕ) (frame frame' : List ℕ) (xs ys : List Handed) → a' ≡ a → q' ≡ q → k ≡ n → frame ≡ frame' → xs ≡ ys → record { activation = a'; queue = q'; place = k; frame = frame } ∷ xs ≡ record { activation = a; queue = q; place = n; frame = frame' } ∷ ys
+heads a' a q' q k n frame frame' xs ys ea eq ek ef more = λ i. record { activation = ea i; queue = eq i; place = ek i; frame = ef i } ∷ more i
 
 -- a frame that came up, on this queue or on another
 lying_here : (b : Beside) (a q : ℕ) (before : List Entry) (from place a' q' k : ℕ) (es : List Entry) (p : Packet) → packet_at b.links from b.port place ≡ Some p → NamedUp before p.frame a' q' k (state_at b.told before) →
@@ -153,10 +155,10 @@ lying_here b a q before from place a' q' k es p at named ih = let e : Entry = en
         let one : count (is_up a q) (fate.Up a' q' k ∷ []) ≡ 1 = rw (ea.0, eq.0) refl in
         let k1 : ups a q (before ++ e ∷ []) ≡ ups a q before + 1 = ups_last a q before e ∙ rw one refl in
         let lhs : lying b a q (e ∷ es) ≡ record { activation = a'; queue = q'; place = k; frame = p.frame } ∷ lying b a q es = rw (at, ea.0, eq.0) refl in
-        let rhs : deliveries b a q before (e ∷ es) ≡ record { frame = p.frame; hash = (rx_choice named.0.rss p.frame).hash; kind = (rx_choice named.0.rss p.frame).kind } ∷ deliveries b a q (before ++ e ∷ []) es = rw (ea.0, eq.0, at, named.1) refl in
+        let rhs : deliveries b a q before (e ∷ es) ≡ delivered_as named.0 p.frame ∷ deliveries b a q (before ++ e ∷ []) es = rw (ea.0, eq.0, at, named.1) refl in
         let ek : k ≡ ups a q before = named.4 ∙ ap (λ (x : ℕ). ups x q' before) ea.1 ∙ ap (λ (x : ℕ). ups a x before) eq.1 in
         let tail : lying b a q es ≡ numbered_up a q (ups a q before + 1) (deliveries b a q (before ++ e ∷ []) es) = ih ∙ ap (λ (n : ℕ). numbered_up a q n (deliveries b a q (before ++ e ∷ []) es)) k1 in
-        lhs ∙ heads a' a q' q k (ups a q before) p.frame (lying b a q es) (numbered_up a q (ups a q before + 1) (deliveries b a q (before ++ e ∷ []) es)) ea.1 eq.1 ek tail ∙ ap (numbered_up a q (ups a q before)) (sym rhs)
+        lhs ∙ heads a' a q' q k (ups a q before) p.frame (with_tag (delivered_as named.0 p.frame).meta.tci (delivered_as named.0 p.frame).frame) (lying b a q es) (numbered_up a q (ups a q before + 1) (deliveries b a q (before ++ e ∷ []) es)) ea.1 eq.1 ek (sym (put_back named.0 p.frame p.octets)) tail ∙ ap (numbered_up a q (ups a q before)) (sym rhs)
     | inr eq ↦ passed b a q before e es (rw (at, ea.0, eq.0) refl) (rw (ea.0, eq.0) refl) (rw (ea.0, eq.0) refl) ih
   ]
   | inr ea ↦ passed b a q before e es (rw (at, ea.0) refl) (rw ea.0 refl) (rw ea.0 refl) ih
@@ -168,7 +170,7 @@ lying_from b setups a q before [] h = refl
 lying_from b setups a q before (entry.Setting number answer setup ∷ es) h = passed b a q before (entry.Setting number answer setup) es refl refl refl (lying_from b setups a q (before ++ entry.Setting number answer setup ∷ []) es h.1)
 lying_from b setups a q before (entry.Out tag target w ∷ es) h = passed b a q before (entry.Out tag target w) es refl refl refl (lying_from b setups a q (before ++ entry.Out tag target w ∷ []) es h.1)
 lying_from b setups a q before (entry.Lost tag ∷ es) h = passed b a q before (entry.Lost tag) es refl refl refl (lying_from b setups a q (before ++ entry.Lost tag ∷ []) es h.1)
-lying_from b setups a q before (entry.In from place (fate.Up a' q' k) ∷ es) h = lying_here b a q before from place a' q' k es h.0.0 h.0.1 (up_named b.mac before h.0.0.frame a' q' k (state_at b.told before) h.0.2) (lying_from b setups a q (before ++ entry.In from place (fate.Up a' q' k) ∷ []) es h.1)
+lying_from b setups a q before (entry.In from place (fate.Up a' q' k) ∷ es) h = lying_here b a q before from place a' q' k es h.0.0 h.0.1 (up_named b before h.0.0.frame a' q' k (state_at b.told before) h.0.2) (lying_from b setups a q (before ++ entry.In from place (fate.Up a' q' k) ∷ []) es h.1)
 lying_from b setups a q before (entry.In from place f ∷ es) h = passed b a q before (entry.In from place f) es (rw h.0.1 refl) refl refl (lying_from b setups a q (before ++ entry.In from place f ∷ []) es h.1)
 
 -- each frame that came up did so on a queue that has facts
@@ -178,7 +180,7 @@ came_found b setups rx es facts before (entry.Setting number answer setup ∷ af
 came_found b setups rx es facts before (entry.Out tag target w ∷ after) split h = came_found b setups rx es facts (before ++ entry.Out tag target w ∷ []) after (split ∙ sym (append_assoc before (entry.Out tag target w ∷ []) after)) h.1
 came_found b setups rx es facts before (entry.Lost tag ∷ after) split h = came_found b setups rx es facts (before ++ entry.Lost tag ∷ []) after (split ∙ sym (append_assoc before (entry.Lost tag ∷ []) after)) h.1
 came_found b setups rx es facts before (entry.In from place (fate.Up a q k) ∷ after) split h =
-    let named : NamedUp before h.0.0.frame a q k (state_at b.told before) = up_named b.mac before h.0.0.frame a q k (state_at b.told before) h.0.2 in
+    let named : NamedUp before h.0.0.frame a q k (state_at b.told before) = up_named b before h.0.0.frame a q k (state_at b.told before) h.0.2 in
     let found : Finds (rx_named a q) rx = rw (named.2, named.3) (facts before (entry.In from place (fate.Up a q k) ∷ after) split named.0 h.0.0.frame named.1) in
     let ih = came_found b setups rx es facts (before ++ entry.In from place (fate.Up a q k) ∷ []) after (split ∙ sym (append_assoc before (entry.In from place (fate.Up a q k) ∷ []) after)) h.1 in
     rw h.0.1 (found, ih)
@@ -198,18 +200,18 @@ none_found {X} rx a q activation queue none (x ∷ xs) h = step (nat_eq (activat
 
 -- what was handed up from a queue of an activation is what came up there
 handed_here : (b : Beside) (setups : List Setup) (v : GuestView) (p : GuestPlan) → HasFacts b v.rx v.entries → EachAfter (IsLawful b setups) [] v.entries → AllByRecursion (AccountsRx b p v) v.rx → AllByRecursion (λ (x : Received). (f : RxView) × (find (rx_named x.activation x.queue) v.rx ≡ Some f)) v.received →
-    (a q : ℕ) → filter (from_queue a q) v.received ≡ lying b a q v.entries
+    (a q : ℕ) → map handed_whole (filter (from_queue a q) v.received) ≡ lying b a q v.entries
 handed_here b setups v p facts lawful rx received a q = step (find (rx_named a q) v.rx) refl
   where
-    step : (o : Option RxView) → find (rx_named a q) v.rx ≡ o → filter (from_queue a q) v.received ≡ lying b a q v.entries
-    step None e = none_found v.rx a q (λ (x : Received). x.activation) (λ (x : Received). x.queue) e v.received received
-        ∙ sym (ap (map received_of) (none_found v.rx a q (λ (u : CameUp). u.activation) (λ (u : CameUp). u.queue) e (came_up b.links b.port v.entries) (came_found b setups v.rx v.entries facts [] v.entries refl lawful)))
+    step : (o : Option RxView) → find (rx_named a q) v.rx ≡ o → map handed_whole (filter (from_queue a q) v.received) ≡ lying b a q v.entries
+    step None e = ap (map handed_whole) (none_found v.rx a q (λ (x : Received). x.activation) (λ (x : Received). x.queue) e v.received received)
+        ∙ sym (ap (map came_of) (none_found v.rx a q (λ (u : CameUp). u.activation) (λ (u : CameUp). u.queue) e (came_up b.links b.port v.entries) (came_found b setups v.rx v.entries facts [] v.entries refl lawful)))
     step (Some f) e =
         let k : AccountsRx b p v f = found_holds (AccountsRx b p v) (rx_named a q) v.rx f e rx in
         let name = same_name f.made.name.activation f.made.name.queue a q (found_passes (rx_named a q) v.rx f e) in
         let handed : filter (from_queue a q) v.received ≡ received_from a q 0 f.delivered = rw (name.0, name.1) at k.handed in
         let delivered : map arrival_of f.delivered ≡ deliveries b a q [] v.entries = rw (name.0, name.1) at k.delivered in
-        handed ∙ numbered_deliveries a q 0 f.delivered ∙ ap (numbered_up a q 0) delivered ∙ sym (lying_from b setups a q [] v.entries lawful)
+        ap (map handed_whole) handed ∙ numbered_deliveries a q 0 f.delivered ∙ ap (numbered_up a q 0) delivered ∙ sym (lying_from b setups a q [] v.entries lawful)
 
 lies_later : (u w : CameUp) → LiesBefore u w → u.activation ≤ w.activation
 lies_later u w (inl lt) = omega (arith, lt)
@@ -217,11 +219,14 @@ lies_later u w (inr e) = omega (arith, e.0)
 
 pub hands_up : (b : Beside) (setups : List Setup) (v : GuestView) (p : GuestPlan) → HasFacts b v.rx v.entries → EachAfter (IsLawful b setups) [] v.entries → AllByRecursion (AccountsRx b p v) v.rx → AllByRecursion (λ (x : Received). (f : RxView) × (find (rx_named x.activation x.queue) v.rx ≡ Some f)) v.received →
     Rises (λ (x y : Received). x.activation ≤ y.activation) v.received → HandsUp v.received (came_up b.links b.port v.entries)
-hands_up b setups v p facts lawful rx received rising q = merged (λ (x : Received). x.activation) (filter (on_queue q) v.received) (map received_of came)
-    (rises_kept (λ (x y : Received). x.activation ≤ y.activation) (on_queue q) v.received rising)
-    (rises_mapped received_of (λ (x y : Received). x.activation ≤ y.activation) came (rises_weaker LiesBefore (λ (u w : CameUp). u.activation ≤ w.activation) lies_later came (places_rise b setups q [] v.entries lawful).1))
-    (λ a. filter_and (λ (x : Received). nat_eq x.activation a) (on_queue q) v.received ∙ handed_here b setups v p facts lawful rx received a q
-    ∙ sym (filter_mapped received_of (λ (x : Received). nat_eq x.activation a) came ∙ ap (map received_of) (filter_and (λ (u : CameUp). nat_eq u.activation a) (on_rx q) (came_up b.links b.port v.entries))))
+hands_up b setups v p facts lawful rx received rising q = merged (λ (x : Handed). x.activation) (map handed_whole up) (map came_of came)
+    (rises_mapped handed_whole (λ (x y : Handed). x.activation ≤ y.activation) up (rises_kept (λ (x y : Received). x.activation ≤ y.activation) (on_queue q) v.received rising))
+    (rises_mapped came_of (λ (x y : Handed). x.activation ≤ y.activation) came (rises_weaker LiesBefore (λ (u w : CameUp). u.activation ≤ w.activation) lies_later came (places_rise b setups q [] v.entries lawful).1))
+    (λ a. filter_mapped handed_whole (λ (x : Handed). nat_eq x.activation a) up ∙ ap (map handed_whole) (filter_and (λ (x : Received). nat_eq x.activation a) (on_queue q) v.received) ∙ handed_here b setups v p facts lawful rx received a q
+    ∙ sym (filter_mapped came_of (λ (x : Handed). nat_eq x.activation a) came ∙ ap (map came_of) (filter_and (λ (u : CameUp). nat_eq u.activation a) (on_rx q) (came_up b.links b.port v.entries))))
   where
+    up : List Received
+    up = filter (on_queue q) v.received
+
     came : List CameUp
     came = filter (on_rx q) (came_up b.links b.port v.entries)

@@ -18,7 +18,8 @@ use Rattle.vmx_model.specs.Left.{IsSentWhole, NothingIsLeft}
 use Rattle.vmx_model.proofs.Lists.{all_weaker}
 use Rattle.vmx_model.proofs.Tags.{all_map_back}
 use Rattle.vmx_model.proofs.Copies.{all_map}
-use Rattle.vmx_model.proofs.Folds.{IsReaped, IsEmptied, serial_even}
+use Rattle.vmx_model.proofs.Folds.{IsReaped, serial_even}
+use Rattle.vmx_model.specs.Turns.{IsEmptied}
 use Rattle.vmx_model.proofs.Polls.{AllReceived, serial_received}
 
 take_all : {X : Type 0} (xs : List X) (n : ℕ) → n ≡ length xs → take n xs ≡ xs

@@ -9,18 +9,17 @@ pub mod Ranges
 pub mod HandedUp
 pub mod Parts
 pub mod Returned
+pub mod Linked
 pub mod Folds
 pub mod Polls
 pub mod Left
-mod Refused
-pub mod Examples
-mod SmallReplays
 pub mod Entries
-pub mod RightRecord
-pub mod RightAccounts
 pub mod Seats
 pub mod Commands
 pub mod Ends
-mod HashedReplay
-mod LargeFrames
-mod MixedReplay
+pub mod Discarded
+pub mod Turns
+pub mod Looks
+pub mod Ready
+pub mod Sends
+pub mod Captures

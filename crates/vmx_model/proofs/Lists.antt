@@ -1,4 +1,6 @@
 -- Laws on filters, counts and places of lists.
+use Rattle.std.specs.List.{All}
+use Rattle.std.proofs.lemmas.List.Elements.{All-head, All-tail}
 use Rattle.std.proofs.Common.{◌≡◌, ℕ, zero, suc, ◌+◌, ◌<◌, ◌≤◌, List, [], ◌∷◌, ◌++◌, length, take, refl, ap, ◌∙◌, arith, nat_eq, true, false, Bool, length-append, inl, inr, Some}
 use Rattle.std.proofs.lemmas.Bool.Decides.{eqb_tells, nat_tests}
 use Rattle.std.proofs.lemmas.List.Elements.{filter-append}
@@ -76,3 +78,8 @@ upto_once n (suc m) at le lt = elim (eqb_tells n at) [
 pub upto_below : (n m : ℕ) → AllByRecursion (λ z. z < n + m) (upto n m)
 upto_below n zero = tt
 upto_below n (suc m) = (omega arith, all_weaker (λ z. z < n + 1 + m) (λ z. z < n + suc m) (λ z lt. omega arith) (upto (n + 1) m) (upto_below (n + 1) m))
+
+-- what holds of each element, element by element
+pub by_recursion : {X : Type 0} (P : X → Type 0) (xs : List X) → All P xs → AllByRecursion P xs
+by_recursion P [] h = tt
+by_recursion P (x ∷ xs) h = (All-head P x xs h, by_recursion P xs (All-tail P x xs h))

@@ -18,14 +18,14 @@ use Rattle.vmx_model.proofs.Lists.{all_weaker, count-append}
 
 -- ------------------------------------------------------------ places
 
-up_by : (before : List Entry) (s : SetupView) (frame : List ℕ) (a q k : ℕ) (w : Verdict) → IsAdmitted before s frame (fate.Up a q k) w → (a ≡ activation_of before) × (k ≡ ups a q before)
-up_by before s frame a q k verdict.Yes h = (h.0, h.2)
-up_by before s frame a q k (verdict.No r) h = absurd (cc h)
+up_by : (b : Beside) (before : List Entry) (s : SetupView) (frame : List ℕ) (a q k : ℕ) (w : Verdict) → IsAdmitted b before s frame (fate.Up a q k) w → (a ≡ activation_of before) × (k ≡ ups a q before)
+up_by b before s frame a q k verdict.Yes h = (h.0, h.2)
+up_by b before s frame a q k (verdict.No r) h = absurd (cc h)
 
 -- a frame that came up has the activation at its entry, and as place the number of those before it
-pub up_shown : (mac : List ℕ) (before : List Entry) (frame : List ℕ) (a q k : ℕ) (state : DeviceState) → IsShown mac before frame (fate.Up a q k) state → (a ≡ activation_of before) × (k ≡ ups a q before)
-up_shown mac before frame a q k Idle h = absurd (cc h)
-up_shown mac before frame a q k (Active s) h = up_by before s frame a q k (admits s mac frame) h
+pub up_shown : (b : Beside) (before : List Entry) (frame : List ℕ) (a q k : ℕ) (state : DeviceState) → IsShown b before frame (fate.Up a q k) state → (a ≡ activation_of before) × (k ≡ ups a q before)
+up_shown b before frame a q k Idle h = absurd (cc h)
+up_shown b before frame a q k (Active s) h = up_by b before s frame a q k (admits s b.mac frame) h
 
 -- nothing behind these entries lies before what they count
 abbrev IsPast : List Entry → ℕ → CameUp → Type 0
@@ -97,6 +97,6 @@ places_rise b setups q before (entry.Setting number answer setup ∷ es) h = ski
 places_rise b setups q before (entry.Out tag target w ∷ es) h = skipped b.links b.port q before (entry.Out tag target w) es refl (places_rise b setups q (before ++ entry.Out tag target w ∷ []) es h.1)
 places_rise b setups q before (entry.Lost tag ∷ es) h = skipped b.links b.port q before (entry.Lost tag) es refl (places_rise b setups q (before ++ entry.Lost tag ∷ []) es h.1)
 places_rise b setups q before (entry.In from place (fate.Up a q' k) ∷ es) h =
-    let shown = up_shown b.mac before h.0.0.frame a q' k (state_at b.told before) h.0.2 in
+    let shown = up_shown b before h.0.0.frame a q' k (state_at b.told before) h.0.2 in
     came_up_here b.links b.port q before from place a q' k h.0.0 es h.0.1 shown.0 shown.1 (places_rise b setups q (before ++ entry.In from place (fate.Up a q' k) ∷ []) es h.1)
 places_rise b setups q before (entry.In from place f ∷ es) h = skipped b.links b.port q before (entry.In from place f) es (rw h.0.1 refl) (places_rise b setups q (before ++ entry.In from place f ∷ []) es h.1)

@@ -11,7 +11,8 @@ use Rattle.vmx_model.specs.declared.journal.Fate.TheVariants as fate
 use Rattle.vmx_filters.specs.declared.answer.Verdict.TheVariants as verdict
 use Rattle.vmx_model.specs.Lists.{count, Rises, upto, EachAfter}
 use Rattle.vmx_model.specs.Wire.{wire_form, rx_queue}
-use Rattle.vmx_model.specs.Plan.{frames_of, frame_of}
+use Rattle.vmx_model.specs.Plan.{wire, sent_on, frames_of, frame_of}
+use Rattle.vmx_model.specs.Totals.{wiring}
 use Rattle.vmx_frame.specs.Internet.{flow_of}
 use Rattle.vmx_frame.specs.declared.kinds.Flow.{Flow}
 use Rattle.vmx_ends.specs.declared.made.RxMade.{RxMade}
@@ -28,7 +29,7 @@ use Rattle.vmx_model.specs.Journal.{Beside, IsLawful, IsShown, IsAdmitted, state
 use Rattle.vmx_model.specs.Fates.{tx_named, entries_at}
 use Rattle.vmx_model.specs.Account.{need, rx_named, IsCause, HasLook, Premises, LeavesGuest, LeavesLink, LeavesRx, Accounts, AccountsGuest, AccountsLink, AccountsRx, AccountsTx, WasTaken, beside, place_from}
 use Rattle.vmx_model.specs.Order.{CameUp, CameUpUnder, KeepsOrder, KeepsFlows, came_up, WasSentBefore}
-use Rattle.vmx_model.proofs.Lists.{all_weaker}
+use Rattle.vmx_model.proofs.Lists.{by_recursion, all_weaker}
 use Rattle.vmx_model.proofs.Fates.{get-append}
 use Rattle.vmx_model.proofs.Found.{Finds, found_passes, found_holds, finds_rx}
 use Rattle.vmx_model.proofs.Ranges.{queue_within, activation_within}
@@ -41,7 +42,7 @@ use Rattle.vmx_model.proofs.Arrivals.{kept, OwnTags, Behind, kept_rises}
 -- ------------------------------------------------------------ look-ups
 
 -- the guest of a record has its plan
-plan_of : (plan : Plan) (r : RecordView) (g : ℕ) (v : GuestView) → length r.guests ≡ length plan.guests → slice_get r.guests g ≡ Some v → (p : GuestPlan) × (slice_get plan.guests g ≡ Some p)
+pub plan_of : (plan : Plan) (r : RecordView) (g : ℕ) (v : GuestView) → length r.guests ≡ length plan.guests → slice_get r.guests g ≡ Some v → (p : GuestPlan) × (slice_get plan.guests g ≡ Some p)
 plan_of plan r g v same here = elim ((slice_get_cases plan.guests g).1) [
   | inl h ↦ (h.0, h.2)
   | inr h ↦ absurd (omega (arith, slice_get_within r.guests g v here, h.0))
@@ -63,12 +64,12 @@ packet_frame plan r prem g x h =
     let p = plan_of plan r g v prem.guests at.1.0 in
     let leaves : LeavesGuest plan r g p.0 v = prem.each g p.0 v p.1 at.1.0 in
     let f : TxView = at.1.1.0 in
-    let tx : AccountsTx plan.guests g p.0 v.entries f = found_holds (AccountsTx plan.guests g p.0 v.entries) (tx_named x.tag.activation x.tag.queue) v.tx f at.1.1.1 leaves.tx in
+    let tx : AccountsTx (wiring plan.guests) g p.0 v.entries f = found_holds (AccountsTx (wiring plan.guests) g p.0 v.entries) (tx_named x.tag.activation x.tag.queue) v.tx f at.1.1.1 leaves.tx in
     let name = same_name f.made.name.activation f.made.name.queue x.tag.activation x.tag.queue (found_passes (tx_named x.tag.activation x.tag.queue) v.tx f at.1.1.1) in
     let fs : List (List ℕ) = map wire_form (sent_of f.taken) in
-    let prefix : fs ++ map wire_form tx.taken.0 ≡ frames_of p.0 x.tag.activation x.tag.queue = wired (sent_of f.taken) tx.taken.0 (frames_of p.0 x.tag.activation x.tag.queue) (tx.taken.1 ∙ tx.sent ∙ rw (name.0, name.1) refl) in
+    let prefix : fs ++ map wire_form tx.taken.0 ≡ frames_of p.0 x.tag.activation x.tag.queue = wired (sent_of f.taken) tx.taken.0 (sent_on p.0 x.tag.activation x.tag.queue) (tx.taken.1 ∙ tx.sent ∙ rw (name.0, name.1) refl) in
     let within : x.tag.place < length fs = slice_get_within fs x.tag.place x.frame at.1.1.2 in
-    rw (h.0, p.1) (sym (ap (λ (fs : List (List ℕ)). slice_get fs x.tag.place) prefix) ∙ get-append fs (map wire_form tx.taken.0) x.tag.place within ∙ at.1.1.2)
+    rw (h.0, p.1) (sym (slice_get-map wire (sent_on p.0 x.tag.activation x.tag.queue) x.tag.place) ∙ sym (ap (λ (fs : List (List ℕ)). slice_get fs x.tag.place) prefix) ∙ get-append fs (map wire_form tx.taken.0) x.tag.place within ∙ at.1.1.2)
 
 whole : {X : Type 0} (xs rest ys : List X) → xs ++ rest ≡ ys → length xs ≡ length ys → xs ≡ ys
 whole xs [] ys e same = sym (append-nil xs) ∙ e
@@ -124,8 +125,8 @@ pushed_rises plan r prem l to leaves q port = step (slice_get r.guests l.from) r
     step (Some v) e =
         let p = plan_of plan r l.from v prem.guests e in
         let guest : LeavesGuest plan r l.from p.0 v = prem.each l.from p.0 v p.1 e in
-        link_rises (λ a q. Finds (tx_named a q) v.tx) plan.guests l.from l.to (beside r l.from p.0 v) v.setups v.entries l.pushed guest.lawful.each
-        (λ a q h. let tx : AccountsTx plan.guests l.from p.0 v.entries h.0 = found_holds (AccountsTx plan.guests l.from p.0 v.entries) (tx_named a q) v.tx h.0 h.1 guest.tx in
+        link_rises (λ a q. Finds (tx_named a q) v.tx) (wiring plan.guests) l.from l.to (beside r l.from p.0 v) v.setups v.entries l.pushed guest.lawful.each
+        (λ a q h. let tx : AccountsTx (wiring plan.guests) l.from p.0 v.entries h.0 = found_holds (AccountsTx (wiring plan.guests) l.from p.0 v.entries) (tx_named a q) v.tx h.0 h.1 guest.tx in
         let name = same_name h.0.made.name.activation h.0.made.name.queue a q (found_passes (tx_named a q) v.tx h.0 h.1) in (map wire_form (sent_of h.0.taken), rw (name.0, name.1) at tx.sends))
         (rw e at leaves.tags)
         (all_weaker (WasTaken r l.from) (λ (x : Packet). Finds (tx_named x.tag.activation x.tag.queue) v.tx) (λ x h. (h.1.0, rw e at h.1.1)) l.pushed leaves.taken)
@@ -170,17 +171,17 @@ pub each_at : {X : Type 0} (P : List X → X → Type 0) (before xs : List X) (x
 each_at P before [] x ys h = rw (append-nil before) h.0
 each_at {X} P before (y ∷ xs) x ys h = let e : (before ++ y ∷ []) ++ xs ≡ before ++ y ∷ xs = append_assoc before (y ∷ []) xs in rw e at (each_at P (before ++ y ∷ []) xs x ys h.1)
 
-queue_by : (before : List Entry) (s : SetupView) (frame : List ℕ) (a q k : ℕ) (w : Verdict) → IsAdmitted before s frame (fate.Up a q k) w → q ≡ rx_queue s.rss frame
-queue_by before s frame a q k verdict.Yes h = h.1
-queue_by before s frame a q k (verdict.No x) h = absurd (cc h)
+queue_by : (b : Beside) (before : List Entry) (s : SetupView) (frame : List ℕ) (a q k : ℕ) (w : Verdict) → IsAdmitted b before s frame (fate.Up a q k) w → q ≡ rx_queue s.rss frame
+queue_by b before s frame a q k verdict.Yes h = h.1
+queue_by b before s frame a q k (verdict.No x) h = absurd (cc h)
 
 came_by_flow : (b : Beside) (setups : List Setup) (es : List Entry) → EachAfter (IsLawful b setups) [] es → (q : ℕ) (f : List ℕ) (s : SetupView) → CameUpUnder b es q f s → q ≡ rx_queue s.rss f
 came_by_flow b setups es lawful q f s c =
     let at : IsLawful b setups c.before (entry.In c.from c.link_place (fate.Up c.activation q c.place)) = each_at (IsLawful b setups) [] c.before _ c.after (rw c.stands at lawful) in
     let same : Some at.0 ≡ Some c.packet = sym at.1 ∙ c.packet_is in
     let frame : at.0.frame ≡ f = ap (λ (x : Packet). x.frame) (inner same) ∙ c.frame_is in
-    let shown : IsShown b.mac c.before at.0.frame (fate.Up c.activation q c.place) (Active s) = rw c.setup_is at at.2 in
-    queue_by c.before s at.0.frame c.activation q c.place (admits s b.mac at.0.frame) shown ∙ ap (rx_queue s.rss) frame
+    let shown : IsShown b c.before at.0.frame (fate.Up c.activation q c.place) (Active s) = rw c.setup_is at at.2 in
+    queue_by b c.before s at.0.frame c.activation q c.place (admits s b.mac at.0.frame) shown ∙ ap (rx_queue s.rss) frame
   where
     inner : {X : Type 0} {x y : X} → Some x ≡ Some y → x ≡ y
     inner e = cc e
@@ -201,13 +202,13 @@ at_length (x ∷ xs) y ys = at_length xs y ys
 abbrev NamedBy : List Entry → List ℕ → ℕ → ℕ → ℕ → DeviceState → Type 0
 NamedBy before frame a q look state = (s : SetupView) × (state ≡ Active s) × (a ≡ activation_of before) × (q ≡ rx_queue s.rss frame) × (look ≡ length (needs a q before))
 
-no_buffer_by : (before : List Entry) (s : SetupView) (frame : List ℕ) (a q ring position look : ℕ) (w : Verdict) → IsAdmitted before s frame (fate.NoBuffer a q ring position look) w → NamedBy before frame a q look (Active s)
-no_buffer_by before s frame a q ring position look verdict.Yes h = (s, refl, h.0, h.1, h.2)
-no_buffer_by before s frame a q ring position look (verdict.No x) h = absurd (cc h)
+no_buffer_by : (b : Beside) (before : List Entry) (s : SetupView) (frame : List ℕ) (a q ring position look : ℕ) (w : Verdict) → IsAdmitted b before s frame (fate.NoBuffer a q ring position look) w → NamedBy before frame a q look (Active s)
+no_buffer_by b before s frame a q ring position look verdict.Yes h = (s, refl, h.0, h.1, h.2)
+no_buffer_by b before s frame a q ring position look (verdict.No x) h = absurd (cc h)
 
-no_buffer_shown : (mac : List ℕ) (before : List Entry) (frame : List ℕ) (a q ring position look : ℕ) (state : DeviceState) → IsShown mac before frame (fate.NoBuffer a q ring position look) state → NamedBy before frame a q look state
-no_buffer_shown mac before frame a q ring position look Idle h = absurd (cc h)
-no_buffer_shown mac before frame a q ring position look (Active s) h = no_buffer_by before s frame a q ring position look (admits s mac frame) h
+no_buffer_shown : (b : Beside) (before : List Entry) (frame : List ℕ) (a q ring position look : ℕ) (state : DeviceState) → IsShown b before frame (fate.NoBuffer a q ring position look) state → NamedBy before frame a q look state
+no_buffer_shown b before frame a q ring position look Idle h = absurd (cc h)
+no_buffer_shown b before frame a q ring position look (Active s) h = no_buffer_by b before s frame a q ring position look (admits s b.mac frame) h
 
 -- a queue's refused looks are the fates without buffer, in order, and each look shows its cause
 abbrev Refused : List Entry → RxView → Type 0
@@ -241,7 +242,7 @@ has_looks b setups rx es facts all before (entry.Setting number answer setup ∷
 has_looks b setups rx es facts all before (entry.Out tag target w ∷ after) split h = has_looks b setups rx es facts all (before ++ entry.Out tag target w ∷ []) after (split ∙ sym (append_assoc before (entry.Out tag target w ∷ []) after)) h.1
 has_looks b setups rx es facts all before (entry.Lost tag ∷ after) split h = has_looks b setups rx es facts all (before ++ entry.Lost tag ∷ []) after (split ∙ sym (append_assoc before (entry.Lost tag ∷ []) after)) h.1
 has_looks b setups rx es facts all before (entry.In from place (fate.NoBuffer a q ring position look) ∷ after) split h =
-    let named : NamedBy before h.0.0.frame a q look (state_at b.told before) = no_buffer_shown b.mac before h.0.0.frame a q ring position look (state_at b.told before) h.0.2 in
+    let named : NamedBy before h.0.0.frame a q look (state_at b.told before) = no_buffer_shown b before h.0.0.frame a q ring position look (state_at b.told before) h.0.2 in
     let there : Finds (rx_named a q) rx = rw (named.2, named.3) (facts before (entry.In from place (fate.NoBuffer a q ring position look) ∷ after) split named.0 h.0.0.frame named.1) in (
       look_here rx es before after from place a q ring position look split all named.4 there.0 there.1,
       has_looks b setups rx es facts all (before ++ entry.In from place (fate.NoBuffer a q ring position look) ∷ []) after (split ∙ sym (append_assoc before (entry.In from place (fate.NoBuffer a q ring position look) ∷ []) after)) h.1,
@@ -287,7 +288,7 @@ guest_accounts plan r prem g p v planned' here =
       opens = h.opens;
       ends = h.ends;
       lawful = h.lawful;
-      causes = has_looks (beside r g p v) v.setups v.rx v.entries facts (all_weaker (LeavesRx (beside r g p v) p v) (Refused v.entries) (λ f k. (k.refused, k.looks, ap (λ (m : RxMade). m.full) k.made)) v.rx h.rx) [] v.entries refl h.lawful.each;
+      causes = has_looks (beside r g p v) v.setups v.rx v.entries facts (all_weaker (LeavesRx (beside r g p v) p v) (Refused v.entries) (λ f k. (k.refused, by_recursion (IsRefusal f.made) f.refused k.looks, ap (λ (m : RxMade). m.full) k.made)) v.rx h.rx) [] v.entries refl h.lawful.each;
       handed_up = hands_up (beside r g p v) v.setups v p facts h.lawful.each (all_weaker (LeavesRx (beside r g p v) p v) (AccountsRx (beside r g p v) p v) (λ f k. rx_accounts (beside r g p v) p v f k) v.rx h.rx) h.received h.rising;
       order = keeps_order plan r prem g p v here h;
       fates = one_fate_each plan r prem g p v planned' here;

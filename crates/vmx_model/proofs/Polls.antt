@@ -5,7 +5,6 @@ use Rattle.std.specs.List.{filter, find, slice_get, AllByRecursion}
 use Rattle.std.specs.Prelude.{nat_lt}
 use Rattle.std.proofs.lemmas.Bool.Decides.{nat_tests}
 use Rattle.vmx_filters.specs.declared.answer.Verdict.TheVariants as verdict
-use Rattle.vmx_ends.specs.declared.meta.RxMeta.{RxMeta}
 use Rattle.vmx_ends.specs.Core.{Outcome, takes, misses}
 use Rattle.vmx_ends.specs.ReceiveCore.{RxCore, comes_to, after_delivery}
 use Rattle.vmx_model.specs.declared.deeds.Deed.TheVariants as deed
@@ -13,13 +12,15 @@ use Rattle.vmx_model.specs.declared.journal.Entry.TheVariants as entry
 use Rattle.vmx_model.specs.declared.journal.Fate.TheVariants as fate
 use Rattle.vmx_model.specs.declared.journal.Way.TheVariants as way
 use Rattle.vmx_model.specs.declared.sending.Sending.TheVariants as sending
+use Rattle.vmx_ends.specs.declared.frames.Sent.{Sent}
+use Rattle.vmx_model.specs.Totals.{wiring}
 use Rattle.vmx_model.specs.Types.{Plan, GuestPlan, Action, Deed, Tag, Sending, Fate, Verdict}
 use Rattle.vmx_model.specs.Lists.{upto}
 use Rattle.vmx_model.specs.Setups.{admits}
-use Rattle.vmx_model.specs.Meta.{meta_of}
-use Rattle.vmx_model.specs.Wire.{targets, rx_queue}
+use Rattle.vmx_model.specs.Meta.{Arrival, delivered_as}
+use Rattle.vmx_model.specs.Wire.{wire_form, targets, rx_queue}
 use Rattle.vmx_model.specs.Plan.{quiesce_dev, reset_dev, Captured, captured, verdict_on, deed_commands, changed}
-use Rattle.vmx_model.specs.Serial.{World, Seat, where_it, at_number, noted, arrived, reaches, spread, sent_by, sends, acted, done, updated_by, activated, quieted, set_command, active_setting, quiet_setting, polled_if, drained, polls, poll, pending, received_next, is_of, rx_is, marked, tried, fate_at, fate_in_turn, fate_on, fate_with, new_rx, transmitted, turn_of, start, seats_from, fresh, closed, serial_run, last_number, rounds, pushed_on, mac_of}
+use Rattle.vmx_model.specs.Serial.{World, Seat, where_it, at_number, noted, arrived, reaches, spread, sent_by, sends, acted, done, updated_by, activated, quieted, set_command, active_setting, quiet_setting, polled_if, emptied, drained, polls, poll, pending, received_next, is_of, rx_is, marked, tried, fate_at, fate_in_turn, fate_on, fate_with, new_rx, transmitted, turn_of, start, seats_from, fresh, closed, serial_run, last_number, rounds, pushed_on, mac_of}
 use Rattle.vmx_model.proofs.Lists.{all_weaker}
 use Rattle.vmx_model.proofs.Tags.{all_append}
 use Rattle.vmx_model.proofs.Copies.{same_name}
@@ -85,10 +86,13 @@ picked_settled : (b : Bool) (begun : ℕ) (x s : Seat) → (b ≡ true → SeatS
 picked_settled true begun x s h k = h refl
 picked_settled false begun x s h k = k refl
 
+emptied_settled : (active : Bool) (s : Seat) → AllByRecursion (CoreOk active s.begun) s.rx → SeatSettled s.begun (emptied s)
+unfolding emptied
+emptied_settled active s h = all_weaker (Lacks s.begun 0) (Settled s.begun) (settled_core s.begun) _ (polls_all s.begun (pending s.rx) s (pending_enough active s.begun (pending s.rx) s.rx h (omega arith)))
+
 drained_settled : (s : Seat) → RxOk s → SeatSettled s.begun (drained s)
 unfolding drained
-drained_settled s h = picked_settled s.active s.begun (polls (s.begun - 1) (pending s.rx) s) s
-    (λ e. all_weaker (Lacks s.begun 0) (Settled s.begun) (settled_core s.begun) _ (polls_all s.begun (pending s.rx) s (pending_enough s.active s.begun (pending s.rx) s.rx h (omega arith))))
+drained_settled s h = picked_settled s.active s.begun (emptied s) s (λ e. emptied_settled s.active s h)
     (λ e. all_weaker (CoreOk false s.begun) (Settled s.begun) (still_core s.begun) s.rx (subst (λ (b : Bool). AllByRecursion (CoreOk b s.begun) s.rx) e h))
 
 polls_begun : (a n : ℕ) (s : Seat) → ((polls a n s).begun ≡ s.begun) × ((polls a n s).active ≡ s.active)
@@ -99,18 +103,24 @@ picked_same : (b : Bool) (x s : Seat) → (x.begun ≡ s.begun) × (x.active ≡
 picked_same true x s e = e
 picked_same false x s e = (refl, refl)
 
+emptied_same : (s : Seat) → ((emptied s).begun ≡ s.begun) × ((emptied s).active ≡ s.active)
+unfolding emptied
+emptied_same s = polls_begun (s.begun - 1) (pending s.rx) s
+
 drained_same : (s : Seat) → ((drained s).begun ≡ s.begun) × ((drained s).active ≡ s.active)
 unfolding drained
-drained_same s = picked_same s.active (polls (s.begun - 1) (pending s.rx) s) s (polls_begun (s.begun - 1) (pending s.rx) s)
+drained_same s = picked_same s.active (emptied s) s (emptied_same s)
 
 drained_ok : (s : Seat) → RxOk s → RxOk (drained s)
 drained_ok s h = rw (drained_same s).0 (all_weaker (Settled s.begun) (CoreOk (drained s).active s.begun) (ok_core (drained s).active s.begun) (drained s).rx (drained_settled s h))
 
 quieted_settled : (number : ℕ) (s : Seat) → RxOk s → SeatSettled s.begun (quieted number s)
-quieted_settled number s h = drained_settled s h
+quieted_settled number s h = emptied_settled s.active (record (quiet_setting number s) { active = false }) h
 
 quieted_ok : (number : ℕ) (s : Seat) → RxOk s → RxOk (quieted number s)
-quieted_ok number s h = rw (drained_same s).0 (all_weaker (Settled s.begun) (CoreOk false s.begun) (ok_core false s.begun) (drained s).rx (drained_settled s h))
+quieted_ok number s h =
+    let same = emptied_same (record (quiet_setting number s) { active = false }) in
+    rw (same.0, same.1) (all_weaker (Settled s.begun) (CoreOk false s.begun) (ok_core false s.begun) (quieted number s).rx (quieted_settled number s h))
 
 -- an activation of a quiet guest
 full_ok : (port : ℕ) (g : GuestPlan) (begun q : ℕ) → CoreOk true (begun + 1) (new_rx port g begun q)
@@ -135,7 +145,7 @@ commanded_ok : (s : Seat) (number : ℕ) → RxOk s → RxOk (set_command s numb
 commanded_ok s number h = pick_ok s.active (active_setting number s) (quiet_setting number s) (λ e. h) (λ e. h)
 
 reset_ok : (port : ℕ) (g : GuestPlan) (s : Seat) → RxOk s → RxOk (activated port g (quieted reset_dev s))
-reset_ok port g s h = activated_ok port g (quieted reset_dev s) (rw (drained_same s).0 (drained_settled s h))
+reset_ok port g s h = activated_ok port g (quieted reset_dev s) (rw (emptied_same (record (quiet_setting reset_dev s) { active = false })).0 (quieted_settled reset_dev s h))
 
 updated_ok : (d : Deed) (s : Seat) → RxOk s → RxOk (updated_by d s)
 updated_ok d s h = fold_keeps RxOk set_command commanded_ok (deed_commands d) (record s { setup = changed s.setup d }) h
@@ -164,13 +174,13 @@ with_marks : (active : Bool) (begun a q : ℕ) (c : RxCore) (o : Outcome) → ac
 with_marks active begun a q c (takes passed end) h k = (h, k)
 with_marks active begun a q c (misses ring position looks) h k = (h, k)
 
-on_marks : (active : Bool) (begun a q : ℕ) (f : List ℕ) (o : Option RxCore) → active ≡ true → a ≡ begun - 1 → Marks active begun (fate_on a q f o)
+on_marks : (active : Bool) (begun a q : ℕ) (f : Arrival) (o : Option RxCore) → active ≡ true → a ≡ begun - 1 → Marks active begun (fate_on a q f o)
 on_marks active begun a q f None h k = tt
-on_marks active begun a q f (Some c) h k = with_marks active begun a q c (comes_to c (length f)) h k
+on_marks active begun a q f (Some c) h k = with_marks active begun a q c (comes_to c (length f.frame)) h k
 
 by_marks : (s : Seat) (f : List ℕ) (v : Verdict) → s.active ≡ true → Marks s.active s.begun (fate_in_turn s f v)
 by_marks s f (verdict.No r) h = tt
-by_marks s f verdict.Yes h = on_marks s.active s.begun (s.begun - 1) (rx_queue s.setup.rss f) f (find (rx_is (s.begun - 1) (rx_queue s.setup.rss f)) s.rx) h refl
+by_marks s f verdict.Yes h = on_marks s.active s.begun (s.begun - 1) (rx_queue s.setup.rss f) (delivered_as s.setup f) (find (rx_is (s.begun - 1) (rx_queue s.setup.rss f)) s.rx) h refl
 
 pick_marks : (b active : Bool) (begun : ℕ) (x : Fate) → (b ≡ true → Marks active begun x) → Marks active begun (if b then x else fate.Inactive)
 pick_marks true active begun x h = h refl
@@ -189,24 +199,24 @@ marked_where active begun a q change on at k (c ∷ cs) h = (step (rx_is a q c) 
     step true e = let name = same_name c.made.name.activation c.made.name.queue a q e in k c h.0 (omega (arith, name.0, at, h.0.1))
     step false e = h.0
 
-tried_core : (active : Bool) (begun : ℕ) (f : List ℕ) (meta : RxMeta) (c : RxCore) → active ≡ true → CoreOk active begun c → suc c.made.name.activation ≡ begun → CoreOk active begun (tried f meta c)
+tried_core : (active : Bool) (begun : ℕ) (f : Arrival) (c : RxCore) → active ≡ true → CoreOk active begun c → suc c.made.name.activation ≡ begun → CoreOk active begun (tried f c)
 unfolding tried
-tried_core active begun f meta c on h e = step (comes_to c (length f))
+tried_core active begun f c on h e = step (comes_to c (length f.frame))
   where
-    step : (o : Outcome) → CoreOk active begun (after_delivery c f meta o)
-    step (takes passed end) = let more = length-append c.delivered (record { frame = f; meta = meta; passed = passed; chain = end.chain } ∷ []) in (omega (arith, h.0, more), h.1, inr (on, e))
+    step : (o : Outcome) → CoreOk active begun (after_delivery c f.frame f.meta o)
+    step (takes passed end) = let more = length-append c.delivered (record { frame = f.frame; meta = f.meta; passed = passed; chain = end.chain } ∷ []) in (omega (arith, h.0, more), h.1, inr (on, e))
     step (misses ring position looks) = h
 
-marked_ok : (active : Bool) (begun : ℕ) (frame : List ℕ) (meta : RxMeta) (f : Fate) (cs : List RxCore) → Marks active begun f → AllByRecursion (CoreOk active begun) cs → AllByRecursion (CoreOk active begun) (marked frame meta f cs)
-marked_ok active begun frame meta (fate.Up a q place) cs m h = marked_where active begun a q (tried frame meta) m.0 m.1 (λ c k e. tried_core active begun frame meta c m.0 k e) cs h
-marked_ok active begun frame meta (fate.NoBuffer a q ring position look) cs m h = marked_where active begun a q (tried frame meta) m.0 m.1 (λ c k e. tried_core active begun frame meta c m.0 k e) cs h
-marked_ok active begun frame meta f cs m h = h
+marked_ok : (active : Bool) (begun : ℕ) (d : Arrival) (f : Fate) (cs : List RxCore) → Marks active begun f → AllByRecursion (CoreOk active begun) cs → AllByRecursion (CoreOk active begun) (marked d f cs)
+marked_ok active begun d (fate.Up a q place) cs m h = marked_where active begun a q (tried d) m.0 m.1 (λ c k e. tried_core active begun d c m.0 k e) cs h
+marked_ok active begun d (fate.NoBuffer a q ring position look) cs m h = marked_where active begun a q (tried d) m.0 m.1 (λ c k e. tried_core active begun d c m.0 k e) cs h
+marked_ok active begun d f cs m h = h
 
 polled_ok : (b : Bool) (s : Seat) → RxOk s → RxOk (polled_if b s)
 polled_ok b s h = pick_ok b (drained s) s (λ e. drained_ok s h) (λ e. h)
 
 arrived_ok : (every : ℕ) (mac : List ℕ) (from place : ℕ) (f : List ℕ) (s : Seat) → RxOk s → RxOk (arrived every mac from place f s)
-arrived_ok every mac from place f s h = polled_ok (nat_eq ((s.seen + 1) % every) 0) (record s { seen = s.seen + 1; entries = s.entries ++ entry.In from place (fate_at s mac f) ∷ []; rx = marked f (meta_of s.setup.rss f) (fate_at s mac f) s.rx }) (marked_ok s.active s.begun f (meta_of s.setup.rss f) (fate_at s mac f) s.rx (fate_marks s mac f) h)
+arrived_ok every mac from place f s h = polled_ok (nat_eq ((s.seen + 1) % every) 0) (record s { seen = s.seen + 1; entries = s.entries ++ entry.In from place (fate_at s mac f) ∷ []; rx = marked (delivered_as s.setup f) (fate_at s mac f) s.rx }) (marked_ok s.active s.begun (delivered_as s.setup f) (fate_at s mac f) s.rx (fate_marks s mac f) h)
 
 -- ------------------------------------------------------------ the run
 
@@ -222,15 +232,15 @@ spread_ok : (plan : Plan) (t : Tag) (f : List ℕ) (tos : List ℕ) (w : World) 
 spread_ok plan t f [] w h = at_number_all RxOk t.guest (noted (entry.Lost t)) (λ s k. k) w.seats h
 spread_ok plan t f (to ∷ tos) w h = fold_keeps AllOk (reaches plan t f) (λ w to k. reaches_ok plan t f w to k) (to ∷ tos) w h
 
-sent_ok : (plan : Plan) (g : ℕ) (f : List ℕ) (s : Sending) (w : World) → AllOk w → AllOk (sent_by plan g f s w)
+sent_ok : (plan : Plan) (g : ℕ) (f : Sent) (s : Sending) (w : World) → AllOk w → AllOk (sent_by plan g f s w)
 sent_ok plan g f sending.Down w h = h
 sent_ok plan g f sending.Short w h = h
 sent_ok plan g f sending.TooLong w h = h
-sent_ok plan g f (sending.Sent a q k) w h = spread_ok plan (record { guest = g; activation = a; queue = q; place = k }) f (targets plan.guests g f) (record w { seats = at_number g (transmitted a q f) w.seats }) (at_number_all RxOk g (transmitted a q f) (λ s k. k) w.seats h)
+sent_ok plan g f (sending.Sent a q k) w h = spread_ok plan (record { guest = g; activation = a; queue = q; place = k }) (wire_form f) (targets (wiring plan.guests) g (wire_form f)) (record w { seats = at_number g (transmitted a q f) w.seats }) (at_number_all RxOk g (transmitted a q f) (λ s k. k) w.seats h)
 
 sends_ok : (plan : Plan) (g : ℕ) (p : GuestPlan) (c : Option Captured) (w : World) → AllOk w → AllOk (sends plan g p c w)
 sends_ok plan g p None w h = h
-sends_ok plan g p (Some c) w h = sent_ok plan g c.frame (verdict_on p c) w h
+sends_ok plan g p (Some c) w h = sent_ok plan g c.posted (verdict_on p c) w h
 
 turn_of_ok : (plan : Plan) (n g : ℕ) (o : Option GuestPlan) (w : World) → AllOk w → AllOk (turn_of plan n g o w)
 turn_of_ok plan n g None w h = h
@@ -245,7 +255,7 @@ pick_received false x s h k = k refl
 
 closed_received : (s : Seat) → RxOk s → AllReceived (closed s)
 closed_received s h = pick_received s.active (quieted quiesce_dev s) s
-    (λ e. all_weaker (Settled s.begun) (λ (c : RxCore). c.received ≡ length c.delivered) (λ c k. k.1) (drained s).rx (drained_settled s h))
+    (λ e. all_weaker (Settled s.begun) (λ (c : RxCore). c.received ≡ length c.delivered) (λ c k. k.1) (quieted quiesce_dev s).rx (quieted_settled quiesce_dev s h))
     (λ e. all_weaker (Settled s.begun) (λ (c : RxCore). c.received ≡ length c.delivered) (λ c k. k.1) s.rx (still_settled s h e))
 
 closed_all : (ss : List Seat) → AllByRecursion RxOk ss → AllByRecursion AllReceived (map closed ss)

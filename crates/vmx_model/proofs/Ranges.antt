@@ -21,7 +21,7 @@ use Rattle.vmx_model.specs.Types.{GuestPlan, Action, Deed, Entry}
 use Rattle.vmx_model.specs.Lists.{count}
 use Rattle.vmx_model.specs.Deeds.{begins, quiet_after}
 use Rattle.vmx_model.specs.Ranges.{is_within, fits_table, fits_deed, is_in_turn, fits_from}
-use Rattle.vmx_device_state.specs.ImageSetup.{image_macs, image_rss, image_setup}
+use Rattle.vmx_device_state.specs.ImageSetup.{image_macs, image_strip, image_csum, image_rss, image_setup}
 use Rattle.vmx_device_state.specs.Orders.{order_of}
 use Rattle.vmx_device_state.specs.declared.order.Order.{Order}
 use Rattle.vmx_device_state.specs.declared.order.Order.TheVariants.{Activate, Stop, Update, Unknown, Get}
@@ -59,8 +59,8 @@ queue_fits n (Some x) f some h = step (kind_of x.types (flow_of f))
     step kind = by_kind kind (nat_eq kind 0)
 
 -- as many receive queues, and an indirection table that names them
-abbrev Fits : ℕ → SetupView → Type 0
-Fits n s = (s.rx_queues ≡ n) × TableFits n s.rss
+abbrev Fits : ℕ → ℕ → SetupView → Type 0
+Fits m n s = (s.rx_queues ≡ n) × TableFits n s.rss × (s.tx_queues ≡ m)
 
 taken_below : (n size : ℕ) (table : List ℕ) (i : ℕ) → 0 < n → list_all (λ x. nat_lt x n) (take size table) ≡ true → i < size → slice_index table i < n
 taken_below n zero table i some all lt = absurd (omega arith)
@@ -76,61 +76,61 @@ new_fits n size table (Some x) some fits =
     let entries = (and_parts _ _ both.1).0 in
     (grind (arith, nat_tests), λ i lt. taken_below n size table i some entries lt)
 
-changed_fits : (n : ℕ) (rss : Bool) (s : SetupView) (d : Deed) → 0 < n → Fits n s → fits_deed n rss d ≡ true → Fits n (changed s d)
-changed_fits n rss s deed.Quiesce some h k = h
-changed_fits n rss s deed.Activate some h k = h
-changed_fits n rss s deed.Reset some h k = h
-changed_fits n rss s (deed.Mode m) some h k = h
-changed_fits n rss s (deed.Multicast t) some h k = h
-changed_fits n rss s (deed.Vlans t) some h k = h
-changed_fits n rss s (deed.Rss size t) some h k = (h.0, new_fits n size t s.rss some (and_parts rss (is_within 1 128 size && fits_table n size t) k).1)
+changed_fits : (m n : ℕ) (rss : Bool) (s : SetupView) (d : Deed) → 0 < n → Fits m n s → fits_deed n rss d ≡ true → Fits m n (changed s d)
+changed_fits m n rss s deed.Quiesce some h k = h
+changed_fits m n rss s deed.Activate some h k = h
+changed_fits m n rss s deed.Reset some h k = h
+changed_fits m n rss s (deed.Mode mode) some h k = h
+changed_fits m n rss s (deed.Multicast t) some h k = h
+changed_fits m n rss s (deed.Vlans t) some h k = h
+changed_fits m n rss s (deed.Rss size t) some h k = (h.0, new_fits n size t s.rss some (and_parts rss (is_within 1 128 size && fits_table n size t) k).1, h.2)
 
-abbrev AskFits : ℕ → Ask → Type 0
-AskFits n x = Fits n x.setup
+abbrev AskFits : ℕ → ℕ → Ask → Type 0
+AskFits m n x = Fits m n x.setup
 
-mapped_fits : (n : ℕ) (s : SetupView) (cs : List ℕ) → Fits n s → AllByRecursion (AskFits n) (map (λ number. record { number = number; setup = s }) cs)
-mapped_fits n s [] h = tt
-mapped_fits n s (c ∷ cs) h = (h, mapped_fits n s cs h)
+mapped_fits : (m n : ℕ) (s : SetupView) (cs : List ℕ) → Fits m n s → AllByRecursion (AskFits m n) (map (λ number. record { number = number; setup = s }) cs)
+mapped_fits m n s [] h = tt
+mapped_fits m n s (c ∷ cs) h = (h, mapped_fits m n s cs h)
 
-deed_asks_fit : (n : ℕ) (rss quiet : Bool) (at : ℕ) (s : SetupView) (script : List Action) → 0 < n → Fits n s → fits_from n rss quiet at script ≡ true → AllByRecursion (AskFits n) (deed_asks s script) × Fits n (after_script s script)
-deed_asks_fit n rss quiet at s [] some h k = (tt, h)
-deed_asks_fit n rss quiet at s (a ∷ rest) some h k =
+deed_asks_fit : (m n : ℕ) (rss quiet : Bool) (at : ℕ) (s : SetupView) (script : List Action) → 0 < n → Fits m n s → fits_from n rss quiet at script ≡ true → AllByRecursion (AskFits m n) (deed_asks s script) × Fits m n (after_script s script)
+deed_asks_fit m n rss quiet at s [] some h k = (tt, h)
+deed_asks_fit m n rss quiet at s (a ∷ rest) some h k =
     let more = (and_parts (is_within at 262144 a.at) (fits_deed n rss a.deed && (is_in_turn quiet a.deed && fits_from n rss (quiet_after quiet a.deed) a.at rest)) k).1 in
     let both = and_parts (fits_deed n rss a.deed) (is_in_turn quiet a.deed && fits_from n rss (quiet_after quiet a.deed) a.at rest) more in
     let others = (and_parts (is_in_turn quiet a.deed) (fits_from n rss (quiet_after quiet a.deed) a.at rest) both.1).1 in
-    let next : Fits n (changed s a.deed) = changed_fits n rss s a.deed some h both.0 in
-    let ih = deed_asks_fit n rss (quiet_after quiet a.deed) a.at (changed s a.deed) rest some next others in
-    (all_append (AskFits n) (map (λ number. record { number = number; setup = changed s a.deed }) (deed_commands a.deed)) (deed_asks (changed s a.deed) rest) (mapped_fits n (changed s a.deed) (deed_commands a.deed) next) ih.0, ih.1)
+    let next : Fits m n (changed s a.deed) = changed_fits m n rss s a.deed some h both.0 in
+    let ih = deed_asks_fit m n rss (quiet_after quiet a.deed) a.at (changed s a.deed) rest some next others in
+    (all_append (AskFits m n) (map (λ number. record { number = number; setup = changed s a.deed }) (deed_commands a.deed)) (deed_asks (changed s a.deed) rest) (mapped_fits m n (changed s a.deed) (deed_commands a.deed) next) ih.0, ih.1)
 
-closing_fits : (n : ℕ) (b : Bool) (s : SetupView) → Fits n s → AllByRecursion (AskFits n) (if b then record { number = quiesce_dev; setup = s } ∷ [] else [])
-closing_fits n true s h = (h, tt)
-closing_fits n false s h = tt
+closing_fits : (m n : ℕ) (b : Bool) (s : SetupView) → Fits m n s → AllByRecursion (AskFits m n) (if b then record { number = quiesce_dev; setup = s } ∷ [] else [])
+closing_fits m n true s h = (h, tt)
+closing_fits m n false s h = tt
 
 setup_fits : (n : ℕ) (o : Option Rss) → ((r : Rss) → o ≡ Some r → (i : ℕ) → i < r.size → slice_index r.table i < n) → TableFits n (option_map rss_view o)
 setup_fits n None h = tt
 setup_fits n (Some r) h = (let low = r.size_low in omega arith, h r refl)
 
-asks_fit : (p : GuestPlan) → AllByRecursion (AskFits p.setup.rx_queues) (asks p)
+asks_fit : (p : GuestPlan) → AllByRecursion (AskFits p.setup.tx_queues p.setup.rx_queues) (asks p)
 asks_fit p =
     let some : 0 < p.setup.rx_queues = let low = p.setup.rx_queues_low in omega arith in
-    let first : Fits p.setup.rx_queues (first_setup p) = (refl, setup_fits p.setup.rx_queues p.setup.rss p.setup.entries) in
-    let k = deed_asks_fit p.setup.rx_queues (is_some p.setup.rss) false 0 (first_setup p) p.script some first p.script_fits in
-    (first, all_append (AskFits p.setup.rx_queues) (deed_asks (first_setup p) p.script) (if closes p then record { number = quiesce_dev; setup = after_script (first_setup p) p.script } ∷ [] else []) k.0 (closing_fits p.setup.rx_queues (closes p) (after_script (first_setup p) p.script) k.1))
+    let first : Fits p.setup.tx_queues p.setup.rx_queues (first_setup p) = (refl, setup_fits p.setup.rx_queues p.setup.rss p.setup.entries, refl) in
+    let k = deed_asks_fit p.setup.tx_queues p.setup.rx_queues (is_some p.setup.rss) false 0 (first_setup p) p.script some first p.script_fits in
+    (first, all_append (AskFits p.setup.tx_queues p.setup.rx_queues) (deed_asks (first_setup p) p.script) (if closes p then record { number = quiesce_dev; setup = after_script (first_setup p) p.script } ∷ [] else []) k.0 (closing_fits p.setup.tx_queues p.setup.rx_queues (closes p) (after_script (first_setup p) p.script) k.1))
 
-abbrev TurnFits : ℕ → Turn → Type 0
-TurnFits n t = is_set t.command.number ≡ true → Fits n (image_setup t.command.image)
+abbrev TurnFits : ℕ → ℕ → Turn → Type 0
+TurnFits m n t = is_set t.command.number ≡ true → Fits m n (image_setup t.command.image)
 
-told_fit : (n : ℕ) (told : List Turn) → AllByRecursion (AskFits n) (map ask_of (filter (λ (t : Turn). is_set t.command.number) told)) → AllByRecursion (TurnFits n) told
-told_fit n [] h = tt
-told_fit n (t ∷ ts) h = step (is_set t.command.number) refl (λ k. told_fit n ts k)
+told_fit : (m n : ℕ) (told : List Turn) → AllByRecursion (AskFits m n) (map ask_of (filter (λ (t : Turn). is_set t.command.number) told)) → AllByRecursion (TurnFits m n) told
+told_fit m n [] h = tt
+told_fit m n (t ∷ ts) h = step (is_set t.command.number) refl (λ k. told_fit m n ts k)
   where
-    step : (b : Bool) → is_set t.command.number ≡ b → (AllByRecursion (AskFits n) (map ask_of (filter (λ (t : Turn). is_set t.command.number) ts)) → AllByRecursion (TurnFits n) ts) → AllByRecursion (TurnFits n) (t ∷ ts)
-    step true e ih = let all : AskFits n (ask_of t) × AllByRecursion (AskFits n) (map ask_of (filter (λ (t : Turn). is_set t.command.number) ts)) = rw e at h in (λ k. all.0, ih all.1)
+    step : (b : Bool) → is_set t.command.number ≡ b → (AllByRecursion (AskFits m n) (map ask_of (filter (λ (t : Turn). is_set t.command.number) ts)) → AllByRecursion (TurnFits m n) ts) → AllByRecursion (TurnFits m n) (t ∷ ts)
+    step true e ih = let all : AskFits m n (ask_of t) × AllByRecursion (AskFits m n) (map ask_of (filter (λ (t : Turn). is_set t.command.number) ts)) = rw e at h in (λ k. all.0, ih all.1)
     step false e ih = (λ k. absurd (cc (e, k)), ih (rw e at h))
 
-abbrev StateFits : ℕ → DeviceState → Type 0
-StateFits n Idle = ⊤
-StateFits n (Active s) = Fits n s
+abbrev StateFits : ℕ → ℕ → DeviceState → Type 0
+StateFits m n Idle = ⊤
+StateFits m n (Active s) = Fits m n s
 
 -- an indirection table that passes its check names queues that are there
 table_within : (bs : List ℕ) (rx : ℕ) → table_fault bs rx ≡ None → (0 < number_at 2 5126 bs) × ((i : ℕ) → i < number_at 2 5126 bs → slice_index (bytes_at 128 5168 bs) i < rx)
@@ -145,58 +145,64 @@ table_within bs rx h =
           rw (bytes_at-index 128 5168 bs i few) (grind (arith, nat_tests, test, lt)),
     )
 
-unless_fits : (n : ℕ) (f : Option ImageFault) (new s : SetupView) → (f ≡ None → Fits n new) → Fits n s → Fits n (unwrap_or (unless f new) s)
-unless_fits n None new s k h = k refl
-unless_fits n (Some f) new s k h = h
+unless_fits : (m n : ℕ) (f : Option ImageFault) (new s : SetupView) → (f ≡ None → Fits m n new) → Fits m n s → Fits m n (unwrap_or (unless f new) s)
+unless_fits m n None new s k h = k refl
+unless_fits m n (Some f) new s k h = h
 
-mode_fits : (n : ℕ) (o : Option ℕ) (s : SetupView) → Fits n s → Fits n (unwrap_or (option_map (λ m. record s { mode = m }) o) s)
-mode_fits n None s h = h
-mode_fits n (Some m) s h = h
+mode_fits : (m n : ℕ) (o : Option ℕ) (s : SetupView) → Fits m n s → Fits m n (unwrap_or (option_map (λ m. record s { mode = m }) o) s)
+mode_fits m n None s h = h
+mode_fits m n (Some mode) s h = h
 
-with_table_fits : (n : ℕ) (o : Option RssView) (s : SetupView) (bs : List ℕ) → Fits n s → Fits n (unwrap_or (with_table s o bs) s)
-with_table_fits n None s bs h = h
-with_table_fits n (Some r) s bs h = unless_fits n (table_fault bs s.rx_queues) (record s { rss = Some (record r { size = number_at 2 5126 bs; table = bytes_at 128 5168 bs }) }) s
-    (λ e. (h.0, table_within bs n (ap (table_fault bs) (sym h.0) ∙ e))) h
+with_table_fits : (m n : ℕ) (o : Option RssView) (s : SetupView) (bs : List ℕ) → Fits m n s → Fits m n (unwrap_or (with_table s o bs) s)
+with_table_fits m n None s bs h = h
+with_table_fits m n (Some r) s bs h = unless_fits m n (table_fault bs s.rx_queues) (record s { rss = Some (record r { size = number_at 2 5126 bs; table = bytes_at 128 5168 bs }) }) s
+    (λ e. (h.0, table_within bs n (ap (table_fault bs) (sym h.0) ∙ e), h.2)) h
 
 -- an update leaves a setup that fits
-updated_fits : (n : ℕ) (part : Part) (s : SetupView) (bs : List ℕ) → Fits n (image_setup bs) → Fits n s → Fits n (unwrap_or (updated part s bs) s)
+updated_fits : (m n : ℕ) (part : Part) (s : SetupView) (bs : List ℕ) → Fits m n (image_setup bs) → Fits m n s → Fits m n (unwrap_or (updated part s bs) s)
 unfolding image_setup
-updated_fits n Mode s bs k h = mode_fits n (mode_of bs) s h
-updated_fits n Macs s bs k h = unless_fits n (multicast_fault bs) (record s { macs = image_macs bs }) s (λ e. h) h
-updated_fits n Vlans s bs k h = h
-updated_fits n Table s bs k h = with_table_fits n s.rss s bs h
-updated_fits n Levels s bs k h = h
-updated_fits n Features s bs k h = unless_fits n (rss_fault bs s.rx_queues) (record s { rss = image_rss bs }) s (λ e. (h.0, k.1)) h
+updated_fits m n Mode s bs k h = mode_fits m n (mode_of bs) s h
+updated_fits m n Macs s bs k h = unless_fits m n (multicast_fault bs) (record s { macs = image_macs bs }) s (λ e. h) h
+updated_fits m n Vlans s bs k h = h
+updated_fits m n Table s bs k h = with_table_fits m n s.rss s bs h
+updated_fits m n Levels s bs k h = h
+updated_fits m n Features s bs k h = unless_fits m n (rss_fault bs s.rx_queues) (record s { rss = image_rss bs; strip = image_strip bs; csum = image_csum bs }) s (λ e. (h.0, k.1, h.2)) h
 
-update_fits : (n : ℕ) (part : Part) (d : DeviceState) (bs : List ℕ) → Fits n (image_setup bs) → StateFits n d → StateFits n (after_update part d bs)
-update_fits n part Idle bs k h = tt
-update_fits n part (Active s) bs k h = updated_fits n part s bs k h
+update_fits : (m n : ℕ) (part : Part) (d : DeviceState) (bs : List ℕ) → Fits m n (image_setup bs) → StateFits m n d → StateFits m n (after_update part d bs)
+update_fits m n part Idle bs k h = tt
+update_fits m n part (Active s) bs k h = updated_fits m n part s bs k h
 
-order_fits : (n : ℕ) (o : Order) (d : DeviceState) (bs : List ℕ) → (o ≢ Get → Fits n (image_setup bs)) → StateFits n d → StateFits n (after_order o d bs)
-order_fits n Activate d bs k h = k (λ e. cc e)
-order_fits n Stop d bs k h = tt
-order_fits n (Update part) d bs k h = update_fits n part d bs (k (λ e. cc e)) h
-order_fits n Unknown d bs k h = h
-order_fits n Get d bs k h = h
+order_fits : (m n : ℕ) (o : Order) (d : DeviceState) (bs : List ℕ) → (o ≢ Get → Fits m n (image_setup bs)) → StateFits m n d → StateFits m n (after_order o d bs)
+order_fits m n Activate d bs k h = k (λ e. cc e)
+order_fits m n Stop d bs k h = tt
+order_fits m n (Update part) d bs k h = update_fits m n part d bs (k (λ e. cc e)) h
+order_fits m n Unknown d bs k h = h
+order_fits m n Get d bs k h = h
 
-turn_fits : (n : ℕ) (d : DeviceState) (t : Turn) → TurnFits n t → StateFits n d → StateFits n (after_turn d t)
-turn_fits n d t k h = step (t.answer.value == 0)
+turn_fits : (m n : ℕ) (d : DeviceState) (t : Turn) → TurnFits m n t → StateFits m n d → StateFits m n (after_turn d t)
+turn_fits m n d t k h = step (t.answer.value == 0)
   where
-    step : (b : Bool) → StateFits n (if b then after_order (order_of t.command.number) d t.command.image else d)
-    step true = order_fits n (order_of t.command.number) d t.command.image (λ other. k (sets t.command.number other)) h
+    step : (b : Bool) → StateFits m n (if b then after_order (order_of t.command.number) d t.command.image else d)
+    step true = order_fits m n (order_of t.command.number) d t.command.image (λ other. k (sets t.command.number other)) h
     step false = h
 
 -- the setup in force names queues that are there
-state_fits : (n k : ℕ) (told : List Turn) (d : DeviceState) → AllByRecursion (TurnFits n) told → StateFits n d → StateFits n (state_from d (take k told))
-state_fits n zero told d all h = h
-state_fits n (suc k) [] d all h = h
-state_fits n (suc k) (t ∷ ts) d all h = state_fits n k ts (after_turn d t) all.1 (turn_fits n d t all.0 h)
+state_fits : (m n k : ℕ) (told : List Turn) (d : DeviceState) → AllByRecursion (TurnFits m n) told → StateFits m n d → StateFits m n (state_from d (take k told))
+state_fits m n zero told d all h = h
+state_fits m n (suc k) [] d all h = h
+state_fits m n (suc k) (t ∷ ts) d all h = state_fits m n k ts (after_turn d t) all.1 (turn_fits m n d t all.0 h)
 
 pub queue_within : (p : GuestPlan) (told : List Turn) (k : ℕ) (s : SetupView) (f : List ℕ) → map ask_of (filter (λ (t : Turn). is_set t.command.number) told) ≡ asks p → state_from Idle (take k told) ≡ Active s → rx_queue s.rss f < p.setup.rx_queues
 queue_within p told k s f images is =
     let some : 0 < p.setup.rx_queues = let low = p.setup.rx_queues_low in omega arith in
-    let fits : StateFits p.setup.rx_queues (Active s) = rw is at (state_fits p.setup.rx_queues k told Idle (told_fit p.setup.rx_queues told (rw images (asks_fit p))) tt) in
+    let fits : StateFits p.setup.tx_queues p.setup.rx_queues (Active s) = rw is at (state_fits p.setup.tx_queues p.setup.rx_queues k told Idle (told_fit p.setup.tx_queues p.setup.rx_queues told (rw images (asks_fit p))) tt) in
     queue_fits p.setup.rx_queues s.rss f some fits.1
+
+-- the setup in force has the plan's transmit queues
+pub tx_queues_kept : (p : GuestPlan) (told : List Turn) (k : ℕ) (s : SetupView) → map ask_of (filter (λ (t : Turn). is_set t.command.number) told) ≡ asks p → state_from Idle (take k told) ≡ Active s → s.tx_queues ≡ p.setup.tx_queues
+tx_queues_kept p told k s images is =
+    let fits : StateFits p.setup.tx_queues p.setup.rx_queues (Active s) = rw is at (state_fits p.setup.tx_queues p.setup.rx_queues k told Idle (told_fit p.setup.tx_queues p.setup.rx_queues told (rw images (asks_fit p))) tt) in
+    fits.2
 
 set_is : (number k : ℕ) → number ≡ k → is_set k ≡ true → is_set number ≡ true
 set_is number k e h = ap is_set e ∙ h

@@ -6,8 +6,10 @@ use Rattle.std.specs.List.{slice_get}
 use Rattle.vmx_model.specs.declared.journal.Entry.TheVariants as entry
 use Rattle.vmx_model.specs.declared.journal.Way.TheVariants as way
 use Rattle.vmx_model.specs.declared.sending.Sending.TheVariants as sending
+use Rattle.vmx_ends.specs.declared.frames.Sent.{Sent}
+use Rattle.vmx_model.specs.Totals.{wiring}
 use Rattle.vmx_model.specs.Types.{Plan, GuestPlan, Tag, Sending, Entry}
-use Rattle.vmx_model.specs.Wire.{targets}
+use Rattle.vmx_model.specs.Wire.{wire_form, targets}
 use Rattle.vmx_model.specs.Plan.{Captured, captured, verdict_on}
 use Rattle.vmx_model.specs.Views.{GuestView, RecordView}
 use Rattle.vmx_model.specs.Record.{HasLists}
@@ -50,7 +52,7 @@ pub record Bears (Q : Seat → Type 0) : Type 0 where
   pub out : (t : Tag) (to place : ℕ) (s : Seat) → Q s → Q (noted (entry.Out t to (way.Link place)) s)
   pub lost : (t : Tag) (s : Seat) → Q s → Q (noted (entry.Lost t) s)
   pub came : (every : ℕ) (mac : List ℕ) (from place : ℕ) (f : List ℕ) (s : Seat) → Q s → Q (arrived every mac from place f s)
-  pub moved : (a q : ℕ) (f : List ℕ) (s : Seat) → Q s → Q (transmitted a q f s)
+  pub moved : (a q : ℕ) (f : Sent) (s : Seat) → Q s → Q (transmitted a q f s)
 
 reaches_at : (Q : Seat → Type 0) → Bears Q → (g : ℕ) (plan : Plan) (t : Tag) (f : List ℕ) (w : World) (to : ℕ) → AtSeat Q g w → AtSeat Q g (reaches plan t f w to)
 reaches_at Q b g plan t f w to h =
@@ -62,17 +64,17 @@ spread_at : (Q : Seat → Type 0) → Bears Q → (g : ℕ) (plan : Plan) (t : T
 spread_at Q b g plan t f [] w h = kept_at Q t.guest g (noted (entry.Lost t)) (b.lost t) w.seats h
 spread_at Q b g plan t f (to ∷ tos) w h = fold_keeps (AtSeat Q g) (reaches plan t f) (λ w to m. reaches_at Q b g plan t f w to m) (to ∷ tos) w h
 
-sent_at : (Q : Seat → Type 0) → Bears Q → (g : ℕ) (plan : Plan) (from : ℕ) (f : List ℕ) (s : Sending) (w : World) → AtSeat Q g w → AtSeat Q g (sent_by plan from f s w)
+sent_at : (Q : Seat → Type 0) → Bears Q → (g : ℕ) (plan : Plan) (from : ℕ) (f : Sent) (s : Sending) (w : World) → AtSeat Q g w → AtSeat Q g (sent_by plan from f s w)
 sent_at Q b g plan from f sending.Down w h = h
 sent_at Q b g plan from f sending.Short w h = h
 sent_at Q b g plan from f sending.TooLong w h = h
 sent_at Q b g plan from f (sending.Sent a q place) w h =
-    spread_at Q b g plan (record { guest = from; activation = a; queue = q; place = place }) f (targets plan.guests from f) (record w { seats = at_number from (transmitted a q f) w.seats })
+    spread_at Q b g plan (record { guest = from; activation = a; queue = q; place = place }) (wire_form f) (targets (wiring plan.guests) from (wire_form f)) (record w { seats = at_number from (transmitted a q f) w.seats })
     (kept_at Q from g (transmitted a q f) (b.moved a q f) w.seats h)
 
 sends_at : (Q : Seat → Type 0) → Bears Q → (g : ℕ) (plan : Plan) (from : ℕ) (p : GuestPlan) (c : Option Captured) (w : World) → AtSeat Q g w → AtSeat Q g (sends plan from p c w)
 sends_at Q b g plan from p None w h = h
-sends_at Q b g plan from p (Some c) w h = sent_at Q b g plan from c.frame (verdict_on p c) w h
+sends_at Q b g plan from p (Some c) w h = sent_at Q b g plan from c.posted (verdict_on p c) w h
 
 -- so does the turn of another guest
 other_turn : (Q : Seat → Type 0) → Bears Q → (g : ℕ) (plan : Plan) (n from : ℕ) (o : Option GuestPlan) (w : World) → from ≢ g → AtSeat Q g w → AtSeat Q g (turn_of plan n from o w)
@@ -104,9 +106,16 @@ turns_at Q plan g p go at n (suc k) w h =
 
 -- ------------------------------------------------------------ the run
 
+-- one element is one, whatever it is
+one_inside : {X : Type 0} (x y : X) → Some x ≡ Some y → x ≡ y
+one_inside x y e = cc e
+
+none_inside : {X : Type 0} (x : X) → None ≡ Some x → ⊥
+none_inside x e = cc e
+
 seat_from : (port : ℕ) (gs : List GuestPlan) (g : ℕ) (p : GuestPlan) (s : Seat) → slice_get gs g ≡ Some p → slice_get (seats_from port gs) g ≡ Some s → (q : ℕ) × (activated q p (fresh p) ≡ s)
-seat_from port [] g p s at e = absurd (cc at)
-seat_from port (x ∷ gs) zero p s at e = let same : x ≡ p = cc at in let first : activated port x (fresh x) ≡ s = cc e in (port, sym (ap (λ (y : GuestPlan). activated port y (fresh y)) same) ∙ first)
+seat_from port [] g p s at e = absurd (none_inside p at)
+seat_from port (x ∷ gs) zero p s at e = let same : x ≡ p = one_inside x p at in let first : activated port x (fresh x) ≡ s = one_inside (activated port x (fresh x)) s e in (port, sym (ap (λ (y : GuestPlan). activated port y (fresh y)) same) ∙ first)
 seat_from port (x ∷ gs) (suc g) p s at e = seat_from (port + 1) gs g p s at e
 
 rounds_at : (Q : ℕ → Seat → Type 0) (plan : Plan) (g : ℕ) (p : GuestPlan) → Goes Q g p → slice_get plan.guests g ≡ Some p → (n : ℕ) → AtSeat (Q n) g (rounds plan n (start plan))

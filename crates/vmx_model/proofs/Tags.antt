@@ -2,10 +2,11 @@
 use Rattle.std.proofs.Common.{◌≡◌, ℕ, ◌+◌, ◌<◌, ◌≤◌, List, [], ◌∷◌, ◌++◌, map, refl, arith, nat_eq, true, false, Bool, subst, inl, inr, Option, Some, None}
 use Rattle.std.proofs.lemmas.Bool.Decides.{eqb_tells, nat_tests}
 use Rattle.std.specs.List.{filter, filter_map, AllByRecursion}
-use Rattle.vmx_model.specs.Types.{GuestPlan, Tag, Packet, Entry, Setup}
+use Rattle.vmx_model.specs.Types.{Tag, Packet, Entry, Setup}
 use Rattle.vmx_model.specs.declared.journal.Entry.TheVariants as entry
 use Rattle.vmx_model.specs.declared.journal.Way.TheVariants as way
 use Rattle.vmx_model.specs.Lists.{Rises, EachAfter}
+use Rattle.vmx_switch.specs.Ports.{Wiring}
 use Rattle.vmx_model.specs.Wire.{targets}
 use Rattle.vmx_model.specs.Journal.{Beside, IsLawful, activation_of}
 use Rattle.vmx_model.specs.Fates.{tag_at}
@@ -52,16 +53,16 @@ pub activations_rise : (b : Beside) (setups : List Setup) (before es : List Entr
 activations_rise b setups before [] h = (tt, tt)
 activations_rise b setups before (entry.Setting number answer setup ∷ es) h = let ih = activations_rise b setups (before ++ entry.Setting number answer setup ∷ []) es h.1 in (later before (entry.Setting number answer setup) es ih.0, ih.1)
 activations_rise b setups before (entry.In from place f ∷ es) h = let ih = activations_rise b setups (before ++ entry.In from place f ∷ []) es h.1 in (later before (entry.In from place f) es ih.0, ih.1)
-activations_rise b setups before (entry.Out tag target w ∷ es) h = sent_here before (entry.Out tag target w) (record { tag = tag; target = Some target }) es refl h.0.0 (activations_rise b setups (before ++ entry.Out tag target w ∷ []) es h.1)
-activations_rise b setups before (entry.Lost tag ∷ es) h = sent_here before (entry.Lost tag) (record { tag = tag; target = None }) es refl h.0.0 (activations_rise b setups (before ++ entry.Lost tag ∷ []) es h.1)
+activations_rise b setups before (entry.Out tag target w ∷ es) h = sent_here before (entry.Out tag target w) (record { tag = tag; target = Some target }) es refl h.0.1 (activations_rise b setups (before ++ entry.Out tag target w ∷ []) es h.1)
+activations_rise b setups before (entry.Lost tag ∷ es) h = sent_here before (entry.Lost tag) (record { tag = tag; target = None }) es refl h.0.1 (activations_rise b setups (before ++ entry.Lost tag ∷ []) es h.1)
 
 -- two frames given to one target, the first with the earlier place
 abbrev PlacesTo : ℕ → Send → Send → Type 0
 PlacesTo to s t = goes_to to s.target ≡ true → goes_to to t.target ≡ true → s.tag.place < t.tag.place
 
-planned_places : (gs : List GuestPlan) (g a q j low : ℕ) (fs : List (List ℕ)) → low ≤ j → AllByRecursion (λ (s : Send). low ≤ s.tag.place) (planned gs g a q j fs)
-planned_places gs g a q j low [] le = tt
-planned_places gs g a q j low (f ∷ fs) le = all_append (λ (s : Send). low ≤ s.tag.place) (frame_sends (tag_at g a q j) (targets gs g f)) (planned gs g a q (j + 1) fs) (each (targets gs g f)) (planned_places gs g a q (j + 1) low fs (omega arith))
+planned_places : (net : Wiring) (g a q j low : ℕ) (fs : List (List ℕ)) → low ≤ j → AllByRecursion (λ (s : Send). low ≤ s.tag.place) (planned net g a q j fs)
+planned_places net g a q j low [] le = tt
+planned_places net g a q j low (f ∷ fs) le = all_append (λ (s : Send). low ≤ s.tag.place) (frame_sends (tag_at g a q j) (targets net g f)) (planned net g a q (j + 1) fs) (each (targets net g f)) (planned_places net g a q (j + 1) low fs (omega arith))
   where
     mapped : (tos : List ℕ) → AllByRecursion (λ (s : Send). low ≤ s.tag.place) (map (λ x. record { tag = tag_at g a q j; target = Some x }) tos)
     mapped [] = tt
@@ -96,13 +97,13 @@ frame_first P t (x ∷ xs) h = mapped (x ∷ xs)
     mapped (to ∷ tos) = (h (Some to), mapped tos)
 
 -- along a queue's sends to one target the places rise
-pub planned_rises : (gs : List GuestPlan) (g a q j to : ℕ) (fs : List (List ℕ)) → Rises (PlacesTo to) (planned gs g a q j fs)
-planned_rises gs g a q j to [] = tt
-planned_rises gs g a q j to (f ∷ fs) = rises_append (PlacesTo to) (frame_sends (tag_at g a q j) (targets gs g f)) (planned gs g a q (j + 1) fs)
-    (frame_rises (tag_at g a q j) to (targets gs g f) (targets_rise gs g f))
-    (planned_rises gs g a q (j + 1) to fs)
-    (frame_first (λ s. AllByRecursion (PlacesTo to s) (planned gs g a q (j + 1) fs)) (tag_at g a q j) (targets gs g f)
-    (λ o. all_weaker (λ (s : Send). j + 1 ≤ s.tag.place) (λ s. PlacesTo to (record { tag = tag_at g a q j; target = o }) s) (λ s le e e'. omega (arith, le)) (planned gs g a q (j + 1) fs) (planned_places gs g a q (j + 1) (j + 1) fs (omega arith))))
+pub planned_rises : (net : Wiring) (g a q j to : ℕ) (fs : List (List ℕ)) → Rises (PlacesTo to) (planned net g a q j fs)
+planned_rises net g a q j to [] = tt
+planned_rises net g a q j to (f ∷ fs) = rises_append (PlacesTo to) (frame_sends (tag_at g a q j) (targets net g f)) (planned net g a q (j + 1) fs)
+    (frame_rises (tag_at g a q j) to (targets net g f) (targets_rise net g f))
+    (planned_rises net g a q (j + 1) to fs)
+    (frame_first (λ s. AllByRecursion (PlacesTo to s) (planned net g a q (j + 1) fs)) (tag_at g a q j) (targets net g f)
+    (λ o. all_weaker (λ (s : Send). j + 1 ≤ s.tag.place) (λ s. PlacesTo to (record { tag = tag_at g a q j; target = o }) s) (λ s le e e'. omega (arith, le)) (planned net g a q (j + 1) fs) (planned_places net g a q (j + 1) (j + 1) fs (omega arith))))
 
 abbrev pub TagBefore : Tag → Tag → Type 0
 TagBefore s t = IsBefore s.activation s.place t.activation t.place
@@ -136,7 +137,7 @@ sends_rise Has q to (s ∷ ss) h k = (heads ss h.0 (λ has e. all_filter (Places
 
 -- ------------------------------------------------------------ the link
 
-tags_all : (to : ℕ) (P : Tag → Type 0) (es : List Entry) → AllByRecursion (λ (s : Send). goes_to to s.target ≡ true → P s.tag) (filter_map send_of es) → AllByRecursion P (filter_map (tag_to to) es)
+pub tags_all : (to : ℕ) (P : Tag → Type 0) (es : List Entry) → AllByRecursion (λ (s : Send). goes_to to s.target ≡ true → P s.tag) (filter_map send_of es) → AllByRecursion P (filter_map (tag_to to) es)
 tags_all to P [] h = tt
 tags_all to P (entry.Setting number answer setup ∷ es) h = tags_all to P es h
 tags_all to P (entry.In from place f ∷ es) h = tags_all to P es h
@@ -182,11 +183,11 @@ abbrev pub PacketsRise : ℕ → Packet → Packet → Type 0
 PacketsRise q x y = x.tag.queue ≡ q → y.tag.queue ≡ q → TagBefore x.tag y.tag
 
 -- on a link the packets of each transmit queue stand in the order in which they were sent
-pub link_rises : (Has : ℕ → ℕ → Type 0) (gs : List GuestPlan) (g to : ℕ) (b : Beside) (setups : List Setup) (es : List Entry) (pushed : List Packet) → EachAfter (IsLawful b setups) [] es →
-    ((a q : ℕ) → Has a q → (fs : List (List ℕ)) × (sends_on a q es ≡ planned gs g a q 0 fs)) → map (λ (x : Packet). x.tag) pushed ≡ filter_map (tag_to to) es →
+pub link_rises : (Has : ℕ → ℕ → Type 0) (net : Wiring) (g to : ℕ) (b : Beside) (setups : List Setup) (es : List Entry) (pushed : List Packet) → EachAfter (IsLawful b setups) [] es →
+    ((a q : ℕ) → Has a q → (fs : List (List ℕ)) × (sends_on a q es ≡ planned net g a q 0 fs)) → map (λ (x : Packet). x.tag) pushed ≡ filter_map (tag_to to) es →
     AllByRecursion (λ (x : Packet). Has x.tag.activation x.tag.queue) pushed → (q : ℕ) → Rises (PacketsRise q) pushed
-link_rises Has gs g to b setups es pushed lawful facts tags has q =
-    let sends : Rises (SentTo (λ a. Has a q) q to) (filter_map send_of es) = sends_rise (λ a. Has a q) q to (filter_map send_of es) (activations_rise b setups [] es lawful).1 (λ a h. let f = facts a q h in rw f.1 (planned_rises gs g a q 0 to f.0)) in
+link_rises Has net g to b setups es pushed lawful facts tags has q =
+    let sends : Rises (SentTo (λ a. Has a q) q to) (filter_map send_of es) = sends_rise (λ a. Has a q) q to (filter_map send_of es) (activations_rise b setups [] es lawful).1 (λ a h. let f = facts a q h in rw f.1 (planned_rises net g a q 0 to f.0)) in
     let on_link : Rises (λ (s t : Tag). Has s.activation q → s.queue ≡ q → t.queue ≡ q → TagBefore s t) (filter_map (tag_to to) es) = tags_rise to (λ (s t : Tag). Has s.activation q → s.queue ≡ q → t.queue ≡ q → TagBefore s t) es (rises_weaker (SentTo (λ a. Has a q) q to) (λ (s t : Send). goes_to to s.target ≡ true → goes_to to t.target ≡ true → Has s.tag.activation q → s.tag.queue ≡ q → t.tag.queue ≡ q → TagBefore s.tag t.tag) (λ s t k e e' h i i'. k h i i' e e') (filter_map send_of es) sends) in
     let packets = rises_map_back (λ (x : Packet). x.tag) (λ (s t : Tag). Has s.activation q → s.queue ≡ q → t.queue ≡ q → TagBefore s t) pushed (rw tags on_link) in
     rises_given (λ (x : Packet). Has x.tag.activation x.tag.queue) (PacketsRise q) pushed has

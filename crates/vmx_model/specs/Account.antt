@@ -1,29 +1,33 @@
 -- A record accounts for a plan; and what whole runs of the actors leave, from which it follows.
 use Rattle.std.specs.Prelude.{◌≡◌, ◌<◌, ◌≤◌, ℕ, ◌+◌, ◌%◌, Bool, true, false, ◌&&◌, nat_eq, if◌then◌else◌, List, [], ◌∷◌, ◌++◌, length, map, filter, filter_map, flat_map, find, Option, Some, None, slice_get, ⊤}
-use Rattle.std.specs.List.{AllByRecursion}
+use Rattle.std.specs.List.{All, AllByRecursion}
 use Rattle.vmx_ends.specs.declared.frames.Sent.{Sent}
 use Rattle.vmx_ends.specs.declared.frames.Delivery.{Delivery}
 use Rattle.vmx_ends.specs.declared.made.TxMade.{TxMade}
 use Rattle.vmx_ends.specs.declared.made.RxMade.{RxMade}
-use Rattle.vmx_ends.specs.declared.made.Bodies.TheVariants.{Every}
 use Rattle.vmx_ends.specs.Frames.{sent_of}
 use Rattle.vmx_ends.specs.Transmit.{TxView}
 use Rattle.vmx_ends.specs.Receive.{RxView}
-use Rattle.vmx_ends.specs.ReceiveClauses.{IsRefusal, ring_size}
+use Rattle.vmx_ends.specs.ReceiveClauses.{IsRefusal, ring_size, made_rx}
 use Rattle.vmx_ends.specs.LinkView.{LinkView}
 use Rattle.vmx_model.specs.declared.journal.Entry.TheVariants as entry
 use Rattle.vmx_model.specs.declared.journal.Fate.TheVariants as fate
 use Rattle.vmx_model.specs.declared.journal.Way.TheVariants as way
 use Rattle.vmx_model.specs.Types.{Plan, GuestPlan, Tag, QueueName, Packet, Entry, Fate, Received}
+use Rattle.vmx_model.specs.declared.limits.TheConstants.{LINK_CAPACITY}
 use Rattle.vmx_model.specs.Lists.{count, EachAfter, IsOne, Rises, upto}
 use Rattle.vmx_model.specs.Deeds.{begins}
 use Rattle.vmx_device_state.specs.ImageSetup.{image_setup}
-use Rattle.vmx_model.specs.Wire.{wire_form, targets, rx_choice}
+use Rattle.vmx_model.specs.Wire.{wire_form, targets}
 use Rattle.vmx_model.specs.Plan.{Ask, posted_of, frame_of, asks, commands, closes, is_set, ends_by_reset, captured}
 use Rattle.vmx_device_state.specs.DeviceState.{DeviceState, Idle, Active}
 use Rattle.vmx_device_state.specs.declared.turn.Turn.{Turn}
-use Rattle.vmx_model.specs.Views.{Need, Arrival, GuestView, RecordView}
-use Rattle.vmx_model.specs.Journal.{Beside, IsLawfulJournal, needs, fate_in, packet_at, state_at}
+use Rattle.vmx_model.specs.Views.{Need, GuestView, RecordView}
+use Rattle.vmx_model.specs.Meta.{Arrival, delivered_as, arrival_of, handed_as}
+use Rattle.vmx_model.specs.Totals.{wiring}
+use Rattle.vmx_switch.specs.Ports.{Wiring}
+use Rattle.vmx_ends.specs.Queues.{made_tx}
+use Rattle.vmx_model.specs.Journal.{Beside, none_stopped, IsLawfulJournal, needs, fate_in, packet_at, state_at}
 use Rattle.vmx_model.specs.Fates.{fates_of, entries_at, tx_named, tx_or_none}
 use Rattle.vmx_model.specs.Stats.{tx_counts, rx_counts}
 use Rattle.vmx_model.specs.Order.{CameUp, came_up, HandsUp, KeepsOrder, KeepsFlows}
@@ -44,11 +48,11 @@ names g p queues = flat_map (queue_names g queues) (upto 0 (activations p))
 
 -- what a guest's queues are made with
 abbrev pub tx_made : GuestPlan → QueueName → TxMade
-tx_made p name = record { name = name; size = p.setup.tx_ring; piece = p.piece; full = true }
+tx_made p name = made_tx name p.setup.tx_ring p.piece p.setup.tx_data
 
 -- the same for a receive queue
 abbrev pub rx_made : GuestPlan → QueueName → RxMade
-rx_made p name = record { name = name; queues = p.setup.rx_queues; size1 = p.setup.rx_ring1; size2 = p.setup.rx_ring2; bodies = Every p.bodies; full = true }
+rx_made p name = made_rx name p.setup.rx_ring1 p.setup.rx_ring2 p.bodies p.setup.rx_queues p.setup.rx_data
 
 -- the links of a port to all others
 abbrev pub link_names : ℕ → ℕ → List (ℕ × ℕ)
@@ -82,9 +86,9 @@ frame_sends t [] = record { tag = t; target = None } ∷ []
 frame_sends t (to ∷ tos) = map (λ x. record { tag = t; target = Some x }) (to ∷ tos)
 
 -- the frames of a queue from place k on, each to its targets
-abbrev pub planned : List GuestPlan → ℕ → ℕ → ℕ → ℕ → List (List ℕ) → List Send
-planned gs g a q k [] = []
-planned gs g a q k (f ∷ fs) = frame_sends (record { guest = g; activation = a; queue = q; place = k }) (targets gs g f) ++ planned gs g a q (k + 1) fs
+abbrev pub planned : Wiring → ℕ → ℕ → ℕ → ℕ → List (List ℕ) → List Send
+planned w g a q k [] = []
+planned w g a q k (f ∷ fs) = frame_sends (record { guest = g; activation = a; queue = q; place = k }) (targets w g f) ++ planned w g a q (k + 1) fs
 
 -- the tags, and the places, of the packets that a journal puts on the link to a target
 abbrev pub tag_to : ℕ → Entry → Option Tag
@@ -142,15 +146,11 @@ IsTraffic (entry.In from place f) = ⊤
 abbrev pub is_lying : ℕ → ℕ → CameUp → Bool
 is_lying a q u = nat_eq u.activation a && nat_eq u.queue q
 
--- a delivered frame with its hash and kind
-abbrev pub arrival_of : Delivery → Arrival
-arrival_of d = record { frame = d.frame; hash = d.meta.hash; kind = d.meta.kind }
-
--- a frame that came up in this state, with hash and kind of its flow
+-- the delivered form of a packet that came up in this state
 abbrev pub arrival_under : Option Packet → DeviceState → List Arrival
 arrival_under None state = []
 arrival_under (Some p) Idle = []
-arrival_under (Some p) (Active s) = record { frame = p.frame; hash = (rx_choice s.rss p.frame).hash; kind = (rx_choice s.rss p.frame).kind } ∷ []
+arrival_under (Some p) (Active s) = delivered_as s p.frame ∷ []
 
 -- a frame that a fate names as come up on a queue
 abbrev pub arrival_by : Beside → ℕ → ℕ → List Entry → ℕ → ℕ → Fate → List Arrival
@@ -177,7 +177,7 @@ from_queue a q x = nat_eq x.activation a && nat_eq x.queue q
 -- frames as a driver hands them up from a queue, with their places from k on
 abbrev pub received_from : ℕ → ℕ → ℕ → List Delivery → List Received
 received_from a q k [] = []
-received_from a q k (d ∷ ds) = record { activation = a; queue = q; place = k; frame = d.frame } ∷ received_from a q (k + 1) ds
+received_from a q k (d ∷ ds) = handed_as a q k d ∷ received_from a q (k + 1) ds
 
 -- ------------------------------------------------------------ looks that found nothing
 
@@ -203,13 +203,13 @@ HasLook rx f = ⊤
 -- ------------------------------------------------------------ the accounts
 
 -- a transmit queue's facts: what the plan sends, taken from the front, all of it unless a reset ended the activation
-pub record AccountsTx (gs : List GuestPlan) (g : ℕ) (p : GuestPlan) (es : List Entry) (f : TxView) : Type 0 where
+pub record AccountsTx (w : Wiring) (g : ℕ) (p : GuestPlan) (es : List Entry) (f : TxView) : Type 0 where
   pub made : f.made ≡ tx_made p f.made.name
   pub sent : f.sent ≡ posted_of p f.made.name.activation f.made.name.queue
   pub taken : (rest : List Sent) × (sent_of f.taken ++ rest ≡ f.sent)
   pub numbers : (f.reaped ≡ length f.taken) × (f.completed ≡ length f.taken)
   pub whole : ends_by_reset p f.made.name.activation ≡ false → length f.taken ≡ length f.sent
-  pub sends : sends_on f.made.name.activation f.made.name.queue es ≡ planned gs g f.made.name.activation f.made.name.queue 0 (map wire_form (sent_of f.taken))
+  pub sends : sends_on f.made.name.activation f.made.name.queue es ≡ planned w g f.made.name.activation f.made.name.queue 0 (map wire_form (sent_of f.taken))
 
 -- a receive queue's facts: what came up there, received whole, and a refused look for each frame without buffer
 pub record AccountsRx (b : Beside) (p : GuestPlan) (v : GuestView) (f : RxView) : Type 0 where
@@ -217,7 +217,7 @@ pub record AccountsRx (b : Beside) (p : GuestPlan) (v : GuestView) (f : RxView) 
   pub delivered : map arrival_of f.delivered ≡ deliveries b f.made.name.activation f.made.name.queue [] v.entries
   pub received : f.received ≡ f.delivered
   pub refused : map need f.refused ≡ needs f.made.name.activation f.made.name.queue v.entries
-  pub looks : AllByRecursion (IsRefusal f.made) f.refused
+  pub looks : All (IsRefusal f.made) f.refused
   pub handed : filter (from_queue f.made.name.activation f.made.name.queue) v.received ≡ received_from f.made.name.activation f.made.name.queue 0 f.delivered
 
 -- a link: its packets and refusals are those of its sender's journal, its arrivals those of its target's
@@ -226,7 +226,7 @@ pub record AccountsLink (plan : Plan) (r : RecordView) (sent came : List Entry) 
   pub places : filter_map (place_to l.to) sent ≡ upto 0 (length l.pushed)
   pub frames : AllByRecursion (λ (x : Packet). frame_of plan x.tag ≡ Some x.frame) l.pushed
   pub looks : filter_map (look_to l.to) sent ≡ upto 0 (length l.full)
-  pub full : AllByRecursion (λ (x : ℕ × ℕ). (64 ≤ x.0) × (x.1 % 2 ≡ 1)) l.full
+  pub full : AllByRecursion (λ (x : ℕ × ℕ). (LINK_CAPACITY ≤ x.0) × (x.1 % 2 ≡ 1)) l.full
   pub pulled : l.pulled ≡ l.pushed
   pub arrivals : filter_map (place_from l.from) came ≡ upto 0 (length l.pulled)
 
@@ -240,13 +240,13 @@ ask_of t = record { number = t.command.number; setup = image_setup t.command.ima
 
 -- what stands beside the journal of guest g in a record
 abbrev pub beside : RecordView → ℕ → GuestPlan → GuestView → Beside
-beside r g p v = record { port = g; mac = p.mac; told = v.told; links = r.links }
+beside r g p v = record { port = g; mac = p.mac; told = v.told; links = r.links; stopped = none_stopped }
 
 -- a guest's part of the accounts
 pub record AccountsGuest (plan : Plan) (r : RecordView) (g : ℕ) (p : GuestPlan) (v : GuestView) : Type 0 where
   pub tx_names : map (λ (f : TxView). f.made.name) v.tx ≡ names g p p.setup.tx_queues
   pub rx_names : map (λ (f : RxView). f.made.name) v.rx ≡ names g p p.setup.rx_queues
-  pub tx : AllByRecursion (AccountsTx plan.guests g p v.entries) v.tx
+  pub tx : AllByRecursion (AccountsTx (wiring plan.guests) g p v.entries) v.tx
   pub rx : AllByRecursion (AccountsRx (beside r g p v) p v) v.rx
   pub received : AllByRecursion (λ (x : Received). (f : RxView) × (find (rx_named x.activation x.queue) v.rx ≡ Some f)) v.received
   pub rising : Rises (λ (x y : Received). x.activation ≤ y.activation) v.received
@@ -281,13 +281,37 @@ pub record Accounts (plan : Plan) (r : RecordView) : Type 0 where
 
 -- ------------------------------------------------------------ what whole runs leave
 
+-- what a sender's device says of its link: it pushed what its journal says
+pub record SendsOnto (sent : List Entry) (l : LinkView) : Type 0 where
+  pub tags : map (λ (x : Packet). x.tag) l.pushed ≡ filter_map (tag_to l.to) sent
+  pub places : filter_map (place_to l.to) sent ≡ upto 0 (length l.pushed)
+  pub looks : filter_map (look_to l.to) sent ≡ upto 0 (length l.full)
+  pub full : AllByRecursion (λ (x : ℕ × ℕ). (LINK_CAPACITY ≤ x.0) × (x.1 % 2 ≡ 1)) l.full
+
+-- what a target's device says of its link: it pulled what its journal says
+pub record PullsFrom (came : List Entry) (l : LinkView) : Type 0 where
+  pub arrivals : filter_map (place_from l.from) came ≡ upto 0 (length l.pulled)
+
+-- what the meeting of a link's ends says, after the target's device found it empty
+pub record MetLink (l : LinkView) : Type 0 where
+  pub met : (rest : List Packet) × (l.pulled ++ rest ≡ l.pushed)
+  pub drained : length l.pulled ≡ length l.pushed
+
+-- a packet of a transmit end is of its guest, and has a frame that the end took
+abbrev pub IsOfEnd : ℕ → ℕ → ℕ → List Sent → Packet → Type 0
+IsOfEnd g a q taken x = x.tag.activation ≡ a → x.tag.queue ≡ q → (x.tag.guest ≡ g) × (slice_get (map wire_form taken) x.tag.place ≡ Some x.frame)
+
+-- the packets of an end on all links of its guest
+abbrev pub PushedOfEnd : List LinkView → ℕ → ℕ → ℕ → List Sent → Type 0
+PushedOfEnd links g a q taken = AllByRecursion (λ (l : LinkView). l.from ≡ g → AllByRecursion (IsOfEnd g a q taken) l.pushed) links
+
 -- a link after its ends have met: the sender's device pushed what its journal says, the target's pulled all of it
 pub record LeavesLink (r : RecordView) (sent came : List Entry) (l : LinkView) : Type 0 where
   pub tags : map (λ (x : Packet). x.tag) l.pushed ≡ filter_map (tag_to l.to) sent
   pub places : filter_map (place_to l.to) sent ≡ upto 0 (length l.pushed)
   pub taken : AllByRecursion (WasTaken r l.from) l.pushed
   pub looks : filter_map (look_to l.to) sent ≡ upto 0 (length l.full)
-  pub full : AllByRecursion (λ (x : ℕ × ℕ). (64 ≤ x.0) × (x.1 % 2 ≡ 1)) l.full
+  pub full : AllByRecursion (λ (x : ℕ × ℕ). (LINK_CAPACITY ≤ x.0) × (x.1 % 2 ≡ 1)) l.full
   pub met : (rest : List Packet) × (l.pulled ++ rest ≡ l.pushed)
   pub drained : length l.pulled ≡ length l.pushed
   pub arrivals : filter_map (place_from l.from) came ≡ upto 0 (length l.pulled)
@@ -299,14 +323,14 @@ pub record LeavesRx (b : Beside) (p : GuestPlan) (v : GuestView) (f : RxView) : 
   pub met : (rest : List Delivery) × (f.received ++ rest ≡ f.delivered)
   pub drained : length f.received ≡ length f.delivered
   pub refused : map need f.refused ≡ needs f.made.name.activation f.made.name.queue v.entries
-  pub looks : AllByRecursion (IsRefusal f.made) f.refused
+  pub looks : All (IsRefusal f.made) f.refused
   pub handed : filter (from_queue f.made.name.activation f.made.name.queue) v.received ≡ received_from f.made.name.activation f.made.name.queue 0 f.received
 
 -- what whole runs of a guest's device and driver leave, after their ends have met
 pub record LeavesGuest (plan : Plan) (r : RecordView) (g : ℕ) (p : GuestPlan) (v : GuestView) : Type 0 where
   pub tx_names : map (λ (f : TxView). f.made.name) v.tx ≡ names g p p.setup.tx_queues
   pub rx_names : map (λ (f : RxView). f.made.name) v.rx ≡ names g p p.setup.rx_queues
-  pub tx : AllByRecursion (AccountsTx plan.guests g p v.entries) v.tx
+  pub tx : AllByRecursion (AccountsTx (wiring plan.guests) g p v.entries) v.tx
   pub rx : AllByRecursion (LeavesRx (beside r g p v) p v) v.rx
   pub received : AllByRecursion (λ (x : Received). (f : RxView) × (find (rx_named x.activation x.queue) v.rx ≡ Some f)) v.received
   pub rising : Rises (λ (x y : Received). x.activation ≤ y.activation) v.received

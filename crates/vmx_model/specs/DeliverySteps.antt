@@ -6,7 +6,7 @@ use Rattle.vmx_model.specs.declared.journal.Entry.TheVariants as entry
 use Rattle.vmx_model.specs.declared.journal.Fate.TheVariants as fate
 use Rattle.vmx_model.specs.Types.{Entry, Setup}
 use Rattle.vmx_model.specs.Lists.{EachAfter, count}
-use Rattle.vmx_model.specs.Views.{Arrival}
+use Rattle.vmx_model.specs.Meta.{Arrival}
 use Rattle.vmx_model.specs.Journal.{Beside, IsLawful, is_setting, state_at, packet_at, needs, need_in, fate_in}
 use Rattle.vmx_model.specs.Order.{CameUp, came_up, up_in}
 use Rattle.vmx_model.specs.Account.{deliveries, arrival_in}

@@ -7,8 +7,9 @@ use Rattle.vmx_model.specs.declared.journal.Way.TheVariants as way
 use Rattle.vmx_model.specs.declared.sending.Sending.TheVariants as sending
 use Rattle.vmx_ends.specs.Transmit.{TxView}
 use Rattle.vmx_model.specs.Views.{GuestView, RecordView}
-use Rattle.vmx_model.specs.Plan.{Captured, captured, verdict_on}
+use Rattle.vmx_model.specs.Plan.{Captured, captured, wire, verdict_on}
 use Rattle.vmx_model.specs.Wire.{targets}
+use Rattle.vmx_model.specs.Totals.{wiring}
 
 -- two tags name one place of one queue
 abbrev pub same_tag : Tag → Tag → Bool
@@ -86,11 +87,11 @@ abbrev pub verdict_fates : Plan → RecordView → ℕ → List ℕ → Sending 
 verdict_fates plan r g frame sending.Down = (fate.Down ∷ []) ∷ []
 verdict_fates plan r g frame sending.Short = (fate.Short ∷ []) ∷ []
 verdict_fates plan r g frame sending.TooLong = (fate.TooLong ∷ []) ∷ []
-verdict_fates plan r g frame (sending.Sent a q k) = sent_fates r (tag_at g a q k) (targets plan.guests g frame)
+verdict_fates plan r g frame (sending.Sent a q k) = sent_fates r (tag_at g a q k) (targets (wiring plan.guests) g frame)
 
 -- the fates of each copy of a captured frame
 abbrev pub fates_of : Plan → RecordView → ℕ → GuestPlan → Captured → List (List Fate)
-fates_of plan r g p c = verdict_fates plan r g c.frame (verdict_on p c)
+fates_of plan r g p c = verdict_fates plan r g (wire c) (verdict_on p c)
 
 -- the fates of all copies of a guest's frames
 abbrev pub guest_fates : Plan → RecordView → ℕ → GuestPlan → List (List Fate)

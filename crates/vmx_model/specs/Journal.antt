@@ -1,16 +1,16 @@
 -- A device's journal: the state at an entry, and what each entry must show.
-use Rattle.std.specs.Prelude.{⊤, ◌≡◌, ℕ, suc, ◌-◌, Bool, true, false, ◌&&◌, nat_eq, List, [], length, take, filter_map, find, Option, Some, None, slice_get, is_some, if◌then◌else◌}
+use Rattle.std.specs.Prelude.{◌≡◌, ◌⊎◌, ◌<◌, ℕ, suc, ◌-◌, Bool, true, false, ◌&&◌, ◌||◌, nat_eq, List, [], ◌∷◌, length, take, filter_map, find, Option, Some, None, slice_get, is_some, if◌then◌else◌}
 use Rattle.std.specs.Option.{option_and_then}
 use Rattle.vmx_filters.specs.declared.answer.Verdict.TheVariants as verdict
 use Rattle.vmx_ends.specs.LinkView.{LinkView}
 use Rattle.vmx_model.specs.declared.journal.Entry.TheVariants as entry
 use Rattle.vmx_model.specs.declared.journal.Fate.TheVariants as fate
-use Rattle.vmx_model.specs.Types.{Setup, Entry, Fate, Packet, Verdict}
+use Rattle.vmx_model.specs.Types.{Setup, Entry, Fate, Packet, Tag, Verdict}
 use Rattle.vmx_model.specs.Lists.{count, EachAfter}
 use Rattle.vmx_device_state.specs.SetupView.{SetupView, setup_view}
 use Rattle.vmx_model.specs.Setups.{admits}
 use Rattle.vmx_model.specs.Wire.{rx_queue}
-use Rattle.vmx_model.specs.Plan.{activate_dev}
+use Rattle.vmx_model.specs.Plan.{activate_dev, reset_dev}
 use Rattle.vmx_device_state.specs.DeviceState.{DeviceState, state_from, Idle, Active}
 use Rattle.vmx_device_state.specs.declared.turn.Turn.{Turn}
 use Rattle.vmx_device_state.specs.Deals.{held_after}
@@ -56,6 +56,7 @@ is_up a q fate.Inactive = false
 is_up a q (fate.Filtered r) = false
 is_up a q (fate.NoBuffer activation queue ring position look) = false
 is_up a q fate.Discarded = false
+is_up a q (fate.Stopped activation queue) = false
 is_up a q fate.NoPort = false
 is_up a q fate.Down = false
 is_up a q fate.Short = false
@@ -85,6 +86,7 @@ need_in a q (fate.LinkFull look) = None
 need_in a q fate.Inactive = None
 need_in a q (fate.Filtered r) = None
 need_in a q fate.Discarded = None
+need_in a q (fate.Stopped activation queue) = None
 need_in a q fate.NoPort = None
 need_in a q fate.Down = None
 need_in a q fate.Short = None
@@ -96,29 +98,63 @@ needs a q es = filter_map (need_in a q) (fates_in es)
 
 -- ------------------------------------------------------------ what the state at an entry allows
 
--- what an active device that lets the frame in makes of it: it comes up on the queue of its flow, or that queue lacks a buffer
-abbrev pub IsTaken : List Entry → SetupView → List ℕ → Fate → Type 0
-IsTaken before s frame (fate.Up a q place) = (a ≡ activation_of before) × (q ≡ rx_queue s.rss frame) × (place ≡ ups a q before)
-IsTaken before s frame (fate.NoBuffer a q ring position look) =
-    (a ≡ activation_of before) × (q ≡ rx_queue s.rss frame) × (look ≡ length (needs a q before))
-IsTaken before s frame (fate.LinkFull look) = ⊥
-IsTaken before s frame fate.Inactive = ⊥
-IsTaken before s frame (fate.Filtered r) = ⊥
-IsTaken before s frame fate.Discarded = ⊥
-IsTaken before s frame fate.NoPort = ⊥
-IsTaken before s frame fate.Down = ⊥
-IsTaken before s frame fate.Short = ⊥
-IsTaken before s frame fate.TooLong = ⊥
+-- what a device leaves beside its journal: its port and address, the turns of its registers, the links; and which of its receive queues are stopped once a fate is written behind these entries, none in a record
+pub record Beside : Type 0 where
+  pub port : ℕ
+  pub mac : List ℕ
+  pub told : List Turn
+  pub links : List LinkView
+  pub stopped : List Entry → Fate → ℕ → Bool
+
+-- no queue is stopped at any entry
+abbrev pub none_stopped : List Entry → Fate → ℕ → Bool
+none_stopped before f q = false
+
+-- a fate that names this queue as stopped
+abbrev pub says_stopped : ℕ → Fate → Bool
+says_stopped q (fate.Stopped activation queue) = nat_eq queue q
+says_stopped q f = false
+
+-- RESET_DEV lets a queue go on
+abbrev pub stopped_after : ℕ → Bool → Entry → Bool
+stopped_after q was (entry.Setting number answer setup) = if nat_eq number reset_dev && nat_eq answer 0 then false else was
+stopped_after q was (entry.Out tag target way) = was
+stopped_after q was (entry.Lost tag) = was
+stopped_after q was (entry.In from place f) = says_stopped q f || was
+
+-- whether a queue is stopped behind these entries, as it was before them
+abbrev pub stopped_from : ℕ → Bool → List Entry → Bool
+stopped_from q was [] = was
+stopped_from q was (e ∷ es) = stopped_from q (stopped_after q was e) es
+
+-- a queue is stopped from the first fate that says so after the last RESET_DEV that was answered 0: what a device over given words has in `stopped`
+abbrev pub stopped_in : List Entry → Fate → ℕ → Bool
+stopped_in before f q = says_stopped q f || stopped_from q false before
+
+-- what an active device that lets the frame in makes of it: it comes up on the queue of its flow, or that queue lacks a buffer, or is stopped
+abbrev pub IsTaken : Beside → List Entry → SetupView → List ℕ → Fate → Type 0
+IsTaken b before s frame (fate.Up a q place) = (a ≡ activation_of before) × (q ≡ rx_queue s.rss frame) × (place ≡ ups a q before) × (b.stopped before (fate.Up a q place) q ≡ false)
+IsTaken b before s frame (fate.NoBuffer a q ring position look) =
+    (a ≡ activation_of before) × (q ≡ rx_queue s.rss frame) × (look ≡ length (needs a q before)) × ((ring ≡ 1) ⊎ (ring ≡ 2)) × (b.stopped before (fate.NoBuffer a q ring position look) q ≡ false)
+IsTaken b before s frame (fate.Stopped a q) = (a ≡ activation_of before) × (q ≡ rx_queue s.rss frame) × (b.stopped before (fate.Stopped a q) q ≡ true)
+IsTaken b before s frame (fate.LinkFull look) = ⊥
+IsTaken b before s frame fate.Inactive = ⊥
+IsTaken b before s frame (fate.Filtered r) = ⊥
+IsTaken b before s frame fate.Discarded = ⊥
+IsTaken b before s frame fate.NoPort = ⊥
+IsTaken b before s frame fate.Down = ⊥
+IsTaken b before s frame fate.Short = ⊥
+IsTaken b before s frame fate.TooLong = ⊥
 
 -- what the filter's verdict allows
-abbrev pub IsAdmitted : List Entry → SetupView → List ℕ → Fate → Verdict → Type 0
-IsAdmitted before s frame f verdict.Yes = IsTaken before s frame f
-IsAdmitted before s frame f (verdict.No r) = f ≡ fate.Filtered r
+abbrev pub IsAdmitted : Beside → List Entry → SetupView → List ℕ → Fate → Verdict → Type 0
+IsAdmitted b before s frame f verdict.Yes = IsTaken b before s frame f
+IsAdmitted b before s frame f (verdict.No r) = f ≡ fate.Filtered r
 
 -- the fate that the state at the entry gives a frame: an idle device takes none, a filter refuses by its rule
-abbrev pub IsShown : List ℕ → List Entry → List ℕ → Fate → DeviceState → Type 0
-IsShown mac before frame f Idle = f ≡ fate.Inactive
-IsShown mac before frame f (Active s) = IsAdmitted before s frame f (admits s mac frame)
+abbrev pub IsShown : Beside → List Entry → List ℕ → Fate → DeviceState → Type 0
+IsShown b before frame f Idle = f ≡ fate.Inactive
+IsShown b before frame f (Active s) = IsAdmitted b before s frame f (admits s b.mac frame)
 
 -- an active device puts the setup in force last in `setups`
 abbrev pub ShowsSetup : List Setup → ℕ → Option ℕ → DeviceState → Type 0
@@ -132,31 +168,28 @@ has_setup (entry.Out tag target way) = false
 has_setup (entry.Lost tag) = false
 has_setup (entry.In from place fate) = false
 
--- what a device leaves beside its journal: its port and address, the turns of its registers, the links
-pub record Beside : Type 0 where
-  pub port : ℕ
-  pub mac : List ℕ
-  pub told : List Turn
-  pub links : List LinkView
-
 -- the turn of an entry, as the registers tell it: its answer is the device's at this state, and its ends come back as they must
 abbrev pub IsTold : List ℕ → List Turn → List Entry → ℕ → ℕ → Type 0
 IsTold mac told before number answer = (t : Turn) × (slice_get told (count is_setting before) ≡ Some t) × (t.command.number ≡ number) × (t.answer.value ≡ answer)
     × (answer ≡ answer_to mac (state_at told before) t) × ComesBack (held_after (take (count is_setting before) told)) t
 
--- the device is active
-abbrev pub IsActive : DeviceState → Type 0
-IsActive Idle = ⊥
-IsActive (Active s) = ⊤
+-- the device is active, and has a transmit queue of this number
+abbrev pub HasTx : ℕ → DeviceState → Type 0
+HasTx q Idle = ⊥
+HasTx q (Active s) = q < s.tx_queues
+
+-- a frame that a device gives to the switch is of one of its own queues
+abbrev pub IsOwn : Beside → List Entry → Tag → Type 0
+IsOwn b before tag = (tag.guest ≡ b.port) × (tag.activation ≡ activation_of before) × HasTx tag.queue (state_at b.told before)
 
 -- an entry is lawful behind those before it
 abbrev pub IsLawful : Beside → List Setup → List Entry → Entry → Type 0
 IsLawful b setups before (entry.Setting number answer setup) =
     IsTold b.mac b.told before number answer × ShowsSetup setups (count has_setup before) setup (state_from Idle (take (suc (count is_setting before)) b.told))
-IsLawful b setups before (entry.Out tag target way) = (tag.activation ≡ activation_of before) × IsActive (state_at b.told before)
-IsLawful b setups before (entry.Lost tag) = (tag.activation ≡ activation_of before) × IsActive (state_at b.told before)
+IsLawful b setups before (entry.Out tag target way) = IsOwn b before tag
+IsLawful b setups before (entry.Lost tag) = IsOwn b before tag
 IsLawful b setups before (entry.In from place f) =
-    (p : Packet) × (packet_at b.links from b.port place ≡ Some p) × IsShown b.mac before p.frame f (state_at b.told before)
+    (p : Packet) × (packet_at b.links from b.port place ≡ Some p) × IsShown b before p.frame f (state_at b.told before)
 
 -- every entry is lawful, and nothing else stands in `setups`
 pub record IsLawfulJournal (b : Beside) (entries : List Entry) (setups : List Setup) : Type 0 where

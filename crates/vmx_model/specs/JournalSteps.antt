@@ -1,7 +1,7 @@
 -- A journal stays lawful while it and the lists beside it grow.
 use Rattle.std.proofs.Common.{◌≡◌, ℕ, zero, suc, ◌≤◌, List, [], ◌∷◌, ◌++◌, length, length-append, take, ◌+◌, ◌∙◌, refl, ap, arith, append-nil, append_assoc, Option, Some}
 use Rattle.std.specs.List.{slice_get}
-use Rattle.vmx_model.specs.Types.{Entry, Setup, Packet}
+use Rattle.vmx_model.specs.Types.{Entry, Fate, Verdict, Setup, Packet}
 use Rattle.vmx_model.specs.declared.journal.Entry.TheVariants as entry
 use Rattle.vmx_model.specs.Lists.{EachAfter, count}
 use Rattle.std.specs.Prelude.{Bool, filter}
@@ -10,7 +10,11 @@ use Rattle.vmx_device_state.specs.DeviceState.{DeviceState, state_from, Idle, Ac
 use Rattle.vmx_device_state.specs.declared.turn.Turn.{Turn}
 use Rattle.vmx_device_state.specs.Deals.{held_after}
 use Rattle.vmx_model.specs.Answers.{ComesBack}
-use Rattle.vmx_model.specs.Journal.{Beside, IsLawful, IsLawfulJournal, ShowsSetup, is_setting, has_setup, state_at, packet_at}
+use Rattle.vmx_device_state.specs.SetupView.{SetupView}
+use Rattle.vmx_filters.specs.declared.answer.Verdict.TheVariants as verdict
+use Rattle.vmx_model.specs.declared.journal.Fate.TheVariants as fate
+use Rattle.vmx_model.specs.Setups.{admits}
+use Rattle.vmx_model.specs.Journal.{Beside, IsTaken, IsAdmitted, IsShown, IsLawful, IsLawfulJournal, ShowsSetup, is_setting, has_setup, state_at, packet_at}
 
 count-append : {X : Type 0} (test : X → Bool) (xs ys : List X) → count test (xs ++ ys) ≡ count test xs + count test ys
 count-append test xs ys = ap length (filter-append test xs ys) ∙ length-append (filter test xs) (filter test ys)
@@ -45,6 +49,7 @@ take_append (suc n) (x ∷ xs) ys le = ap (λ (zs : List _). x ∷ zs) (take_app
 pub record Extends (old new : Beside) : Type 0 where
   pub port : new.port ≡ old.port
   pub mac : new.mac ≡ old.mac
+  pub stopped : new.stopped ≡ old.stopped
   pub more : List Turn
   pub told : new.told ≡ old.told ++ more
   pub links : (from place : ℕ) (p : Packet) → packet_at old.links from old.port place ≡ Some p → packet_at new.links from new.port place ≡ Some p
@@ -60,6 +65,28 @@ told_taken old new x before e le =
     let taken : take (count is_setting before) new.told ≡ take (count is_setting before) old.told = rw x.told (take_append (count is_setting before) old.told x.more enough) in
     ap (state_from Idle) taken
 
+taken_grows : (old new : Beside) → Extends old new → (before : List Entry) (s : SetupView) (frame : List ℕ) (f : Fate) → IsTaken old before s frame f → IsTaken new before s frame f
+taken_grows old new x before s frame (fate.Up a q k) h = (h.0, h.1, h.2, rw x.stopped h.3)
+taken_grows old new x before s frame (fate.NoBuffer a q ring position look) h = (h.0, h.1, h.2, h.3, rw x.stopped h.4)
+taken_grows old new x before s frame (fate.Stopped a q) h = (h.0, h.1, rw x.stopped h.2)
+taken_grows old new x before s frame (fate.LinkFull look) h = h
+taken_grows old new x before s frame fate.Inactive h = h
+taken_grows old new x before s frame (fate.Filtered r) h = h
+taken_grows old new x before s frame fate.Discarded h = h
+taken_grows old new x before s frame fate.NoPort h = h
+taken_grows old new x before s frame fate.Down h = h
+taken_grows old new x before s frame fate.Short h = h
+taken_grows old new x before s frame fate.TooLong h = h
+
+admitted_grows : (old new : Beside) → Extends old new → (before : List Entry) (s : SetupView) (frame : List ℕ) (f : Fate) (w : Verdict) → IsAdmitted old before s frame f w → IsAdmitted new before s frame f w
+admitted_grows old new x before s frame f verdict.Yes h = taken_grows old new x before s frame f h
+admitted_grows old new x before s frame f (verdict.No r) h = h
+
+-- what is shown goes on to be shown
+shown_grows : (old new : Beside) → Extends old new → (before : List Entry) (frame : List ℕ) (f : Fate) (d : DeviceState) → IsShown old before frame f d → IsShown new before frame f d
+shown_grows old new x before frame f Idle h = h
+shown_grows old new x before frame f (Active s) h = admitted_grows old new x before s frame f (admits s new.mac frame) (rw x.mac h)
+
 entry_grows : (old new : Beside) → Extends old new → (setups more : List Setup) (before : List Entry) (e : Entry) → count is_setting (before ++ e ∷ []) ≤ length old.told → IsLawful old setups before e → IsLawful new (setups ++ more) before e
 entry_grows old new x setups more before (entry.Setting number answer setup) le h =
     let enough : suc (count is_setting before) ≤ length old.told = omega (arith, le, count-append is_setting before (entry.Setting number answer setup ∷ [])) in
@@ -72,17 +99,17 @@ entry_grows old new x setups more before (entry.Out tag target w) le h =
     let enough : count is_setting before ≤ length old.told = omega (arith, le, count-append is_setting before (entry.Out tag target w ∷ [])) in
     let taken : take (count is_setting before) new.told ≡ take (count is_setting before) old.told = rw x.told (take_append (count is_setting before) old.told x.more enough) in
     let same : state_at new.told before ≡ state_at old.told before = ap (state_from Idle) taken in
-    (h.0, rw same h.1)
+    (rw x.port h.0, h.1, rw same h.2)
 entry_grows old new x setups more before (entry.Lost tag) le h =
     let enough : count is_setting before ≤ length old.told = omega (arith, le, count-append is_setting before (entry.Lost tag ∷ [])) in
     let taken : take (count is_setting before) new.told ≡ take (count is_setting before) old.told = rw x.told (take_append (count is_setting before) old.told x.more enough) in
     let same : state_at new.told before ≡ state_at old.told before = ap (state_from Idle) taken in
-    (h.0, rw same h.1)
+    (rw x.port h.0, h.1, rw same h.2)
 entry_grows old new x setups more before (entry.In from place f) le h =
     let enough : count is_setting before ≤ length old.told = omega (arith, le, count-append is_setting before (entry.In from place f ∷ [])) in
     let taken : take (count is_setting before) new.told ≡ take (count is_setting before) old.told = rw x.told (take_append (count is_setting before) old.told x.more enough) in
     let same : state_at new.told before ≡ state_at old.told before = ap (state_from Idle) taken in
-    (h.0, x.links from place h.0 h.1, rw (same, x.mac) h.2)
+    (h.0, x.links from place h.0 h.1, rw same (shown_grows old new x before h.0.frame f (state_at old.told before) h.2))
 
 pub fewer : (before : List Entry) (e : Entry) (es : List Entry) → count is_setting (before ++ e ∷ []) ≤ count is_setting (before ++ e ∷ es)
 fewer before e es = omega (arith, count-append is_setting before (e ∷ []), count-append is_setting before (e ∷ es), count-append is_setting (e ∷ []) es)
@@ -94,6 +121,13 @@ lawful_grows old new x setups more before (e ∷ es) le h =
     let here : count is_setting (before ++ e ∷ []) ≤ length old.told = omega (arith, le, fewer before e es) in
     let rest : count is_setting ((before ++ e ∷ []) ++ es) ≤ length old.told = rw (append_assoc before (e ∷ []) es) le in
     (entry_grows old new x setups more before e here h.0, lawful_grows old new x setups more (before ++ e ∷ []) es rest h.1)
+
+-- a journal that is lawful beside shorter lists is lawful beside longer ones, where all its commands lie in the shorter ones
+pub stays : (old new : Beside) → Extends old new → (setups : List Setup) (es : List Entry) → count is_setting es ≤ length old.told → IsLawfulJournal old es setups → IsLawfulJournal new es setups
+stays old new x setups es le h = record {
+  each = let all : EachAfter (IsLawful new (setups ++ [])) [] es = lawful_grows old new x setups [] [] es le h.each in rw (append-nil setups) at all;
+  no_more = h.no_more;
+}
 
 -- the step of a device: all beside grows, and one lawful entry is added
 pub lawful_push : (old new : Beside) → Extends old new → (setups more : List Setup) (es : List Entry) (e : Entry) → count is_setting es ≤ length old.told → EachAfter (IsLawful old setups) [] es → IsLawful new (setups ++ more) es e → EachAfter (IsLawful new (setups ++ more)) [] (es ++ e ∷ [])

@@ -6,6 +6,7 @@ pub mod Makers
 pub mod Types
 pub mod Setups
 pub mod Wire
+pub mod Meta
 pub mod Plan
 pub mod Answers
 pub mod Views
@@ -14,7 +15,6 @@ pub mod Fates
 pub mod Order
 pub mod Stats
 pub mod Account
-pub mod Meta
 pub mod Serial
 pub mod Record
 pub mod Left
@@ -28,3 +28,4 @@ pub mod PollSteps
 pub mod DeliverySteps
 pub mod AccountLaws
 pub mod Bags
+pub mod Turns

@@ -9,6 +9,7 @@ use Rattle.vmx_ends.specs.LinkView.{LinkView}
 use Rattle.vmx_frame.specs.Internet.{flow_of}
 use Rattle.vmx_device_state.specs.DeviceState.{Active}
 use Rattle.vmx_device_state.specs.SetupView.{SetupView}
+use Rattle.vmx_model.specs.Meta.{whole}
 use Rattle.vmx_model.specs.Plan.{frame_of}
 use Rattle.vmx_model.specs.Journal.{Beside, packet_at, state_at}
 
@@ -44,17 +45,28 @@ on_rx q u = nat_eq u.queue q
 abbrev pub from_tx : ℕ → ℕ → CameUp → Bool
 from_tx g q u = nat_eq u.packet.tag.guest g && nat_eq u.packet.tag.queue q
 
--- a frame that came up, as its driver hands it up
-abbrev pub received_of : CameUp → Received
-received_of u = record { activation = u.activation; queue = u.queue; place = u.place; frame = u.packet.frame }
+-- where a frame was handed up, and the frame with its tag
+pub record Handed : Type 0 where
+  pub activation : ℕ
+  pub queue : ℕ
+  pub place : ℕ
+  pub frame : List ℕ
+
+-- a frame that a driver handed up
+abbrev pub handed_whole : Received → Handed
+handed_whole x = record { activation = x.activation; queue = x.queue; place = x.place; frame = whole x }
+
+-- a packet that came up
+abbrev pub came_of : CameUp → Handed
+came_of u = record { activation = u.activation; queue = u.queue; place = u.place; frame = u.packet.frame }
 
 -- it was handed up from a receive queue of this number
 abbrev pub on_queue : ℕ → Received → Bool
 on_queue q x = nat_eq x.queue q
 
--- what a driver handed up from the queues of a number is what came up there, in the order of the journal
+-- what a driver handed up from the queues of a number is, with tags put back, what came up there, in the order of the journal
 abbrev pub HandsUp : List Received → List CameUp → Type 0
-HandsUp received came = (q : ℕ) → filter (on_queue q) received ≡ map received_of (filter (on_rx q) came)
+HandsUp received came = (q : ℕ) → map handed_whole (filter (on_queue q) received) ≡ map came_of (filter (on_rx q) came)
 
 -- first by activation, then by place
 abbrev pub IsBefore : ℕ → ℕ → ℕ → ℕ → Type 0

@@ -1,5 +1,7 @@
 -- What a plan says of each captured frame, and the commands of a guest's driver.
-use Rattle.std.specs.Prelude.{ℕ, ◌+◌, Bool, false, ◌&&◌, not, nat_eq, nat_le, nat_lt, if◌then◌else◌, List, [], ◌∷◌, ◌++◌, length, map, take, filter, Option, Some, None, slice_get}
+use Rattle.std.specs.Prelude.{◌≡◌, ℕ, ◌+◌, Bool, false, ◌&&◌, not, nat_eq, nat_le, nat_lt, if◌then◌else◌, List, [], ◌∷◌, ◌++◌, length, map, take, filter, Option, Some, None, slice_get, option_map}
+use Rattle.vmx_frame.specs.declared.ethernet.TheConstants.{HEADER_LEN}
+use Rattle.vmx_model.specs.declared.limits.TheConstants.{ABOVE_MTU}
 use Rattle.vmx_layout.specs.Command.{number_of}
 use Rattle.vmx_layout.specs.declared.command.Command.TheVariants.{ActivateDev, QuiesceDev, ResetDev, UpdateRxMode, UpdateMacFilters, UpdateVlanFilters, UpdateRssidt}
 use Rattle.vmx_ends.specs.declared.frames.Sent.{Sent}
@@ -26,36 +28,44 @@ is_down g i = is_quiet false (past i g.script)
 abbrev pub activation_at : GuestPlan → ℕ → ℕ
 activation_at g i = count (λ a. begins a.deed) (past i g.script)
 
--- a captured frame in wire form beside its number
+-- a captured frame as it is posted, beside its number
 pub record Captured : Type 0 where
   pub number : ℕ
-  pub frame : List ℕ
+  pub posted : Sent
 
--- a record of a capture, in wire form
-abbrev pub captured_as : ℕ → Stamped → Captured
-captured_as i r = record { number = i; frame = wire_form (posted_form r.frame) }
+-- a record of a guest's capture
+abbrev pub captured_as : GuestPlan → ℕ → Stamped → Captured
+captured_as g i r = record { number = i; posted = posted_form g r.frame }
+
+-- its wire form
+abbrev pub wire : Captured → List ℕ
+wire c = wire_form c.posted
 
 -- records from number i on
-abbrev pub numbered : ℕ → List Stamped → List Captured
-numbered i [] = []
-numbered i (r ∷ rs) = captured_as i r ∷ numbered (i + 1) rs
+abbrev pub numbered : GuestPlan → ℕ → List Stamped → List Captured
+numbered g i [] = []
+numbered g i (r ∷ rs) = captured_as g i r ∷ numbered g (i + 1) rs
 
 -- all captured frames of a guest
 abbrev pub captured : GuestPlan → List Captured
-captured g = numbered 0 g.capture.records
+captured g = numbered g 0 g.capture.records
 
 -- whether the frame is sent on this queue of this activation: at least an Ethernet header of 14 bytes (IEEE 802.3), at most that and a tag above the MTU
 abbrev pub goes_on : GuestPlan → ℕ → ℕ → Captured → Bool
-goes_on g a q c = not (is_down g c.number) && (nat_le 14 (length c.frame) && (nat_le (length c.frame) (g.setup.mtu + 18)
-    && (nat_eq (activation_at g c.number) a && nat_eq (tx_queue c.frame g.setup.tx_queues) q)))
+goes_on g a q c = not (is_down g c.number) && (nat_le HEADER_LEN (length c.posted.frame) && (nat_le (length (wire c)) (g.setup.mtu + ABOVE_MTU)
+    && (nat_eq (activation_at g c.number) a && nat_eq (tx_queue c.posted.frame g.setup.tx_queues) q)))
 
--- the frames that a queue of an activation sends, in their order
+-- the captured frames that a queue of an activation sends, in their order
+abbrev pub sent_on : GuestPlan → ℕ → ℕ → List Captured
+sent_on g a q = filter (goes_on g a q) (captured g)
+
+-- their wire forms
 abbrev pub frames_of : GuestPlan → ℕ → ℕ → List (List ℕ)
-frames_of g a q = map (λ c. c.frame) (filter (goes_on g a q) (captured g))
+frames_of g a q = map wire (sent_on g a q)
 
--- the same as they are posted
+-- and as they are posted
 abbrev pub posted_of : GuestPlan → ℕ → ℕ → List Sent
-posted_of g a q = map posted_form (frames_of g a q)
+posted_of g a q = map (λ (c : Captured). c.posted) (sent_on g a q)
 
 -- how many frames of that queue were captured before number i
 abbrev pub place_of : GuestPlan → ℕ → ℕ → ℕ → ℕ
@@ -69,18 +79,40 @@ sent_at g a q i = sending.Sent a q (place_of g a q i)
 abbrev pub verdict_on : GuestPlan → Captured → Sending
 verdict_on g c =
     if is_down g c.number then sending.Down else
-    (if nat_lt (length c.frame) 14 then sending.Short else
-    (if nat_lt (g.setup.mtu + 18) (length c.frame) then sending.TooLong else
-    sent_at g (activation_at g c.number) (tx_queue c.frame g.setup.tx_queues) c.number))
+    (if nat_lt (length c.posted.frame) HEADER_LEN then sending.Short else
+    (if nat_lt (g.setup.mtu + ABOVE_MTU) (length (wire c)) then sending.TooLong else
+    sent_at g (activation_at g c.number) (tx_queue c.posted.frame g.setup.tx_queues) c.number))
 
--- the frame at a tag's place among those of its queue
-abbrev pub guest_frame : Option GuestPlan → Tag → Option (List ℕ)
-guest_frame None t = None
-guest_frame (Some g) t = slice_get (frames_of g t.activation t.queue) t.place
+-- the captured frame at a tag's place among those of its queue
+abbrev pub guest_captured : Option GuestPlan → Tag → Option Captured
+guest_captured None t = None
+guest_captured (Some g) t = slice_get (sent_on g t.activation t.queue) t.place
 
--- the wire form of a tag's frame
+-- a tag's captured frame
+abbrev pub captured_of : Plan → Tag → Option Captured
+captured_of plan t = guest_captured (slice_get plan.guests t.guest) t
+
+-- its wire form
 abbrev pub frame_of : Plan → Tag → Option (List ℕ)
-frame_of plan t = guest_frame (slice_get plan.guests t.guest) t
+frame_of plan t = option_map wire (captured_of plan t)
+
+-- the record of a captured frame
+abbrev pub record_of : Option GuestPlan → Option Captured → Option Stamped
+record_of None c = None
+record_of (Some g) None = None
+record_of (Some g) (Some c) = slice_get g.capture.records c.number
+
+-- the record of a tag's captured frame: the stamp of a frame that is handed up is this record's
+abbrev pub stamped_of : Plan → Tag → Option Stamped
+stamped_of plan t = record_of (slice_get plan.guests t.guest) (captured_of plan t)
+
+-- a frame is the wire form of this record of this guest's capture
+pub record HasStamp (g : Option GuestPlan) (r : Option Stamped) (frame : List ℕ) : Type 0 where
+  pub guest : GuestPlan
+  pub guest_is : g ≡ Some guest
+  pub captured : Stamped
+  pub captured_is : r ≡ Some captured
+  pub frame_is : frame ≡ wire_form (posted_form guest captured.frame)
 
 -- the action is there, and is a reset
 abbrev pub is_reset_there : Option Action → Bool

@@ -9,34 +9,34 @@ use Rattle.vmx_model.specs.Deeds.{quiet_after, is_quiet}
 use Rattle.vmx_model.specs.Plan.{past, captured, captured_as, numbered, goes_on, place_of}
 use Rattle.vmx_model.specs.QueueSteps.{take_more}
 
-numbered_as : (j : ℕ) (rs : List Stamped) (i : ℕ) (r : Stamped) → slice_get rs i ≡ Some r → slice_get (numbered j rs) i ≡ Some (captured_as (j + i) r)
-numbered_as j [] i r h = absurd (cc h)
-numbered_as j (x ∷ rs) zero r h = let same : x ≡ r = cc h in let e : j ≡ j + zero = omega arith in rw (same, sym e) refl
-numbered_as j (x ∷ rs) (suc i) r h = let e : j + 1 + i ≡ j + suc i = omega arith in rw e at (numbered_as (j + 1) rs i r h)
+numbered_as : (g : GuestPlan) (j : ℕ) (rs : List Stamped) (i : ℕ) (r : Stamped) → slice_get rs i ≡ Some r → slice_get (numbered g j rs) i ≡ Some (captured_as g (j + i) r)
+numbered_as g j [] i r h = absurd (cc h)
+numbered_as g j (x ∷ rs) zero r h = let same : x ≡ r = cc h in let e : j ≡ j + zero = omega arith in rw (same, sym e) refl
+numbered_as g j (x ∷ rs) (suc i) r h = let e : j + 1 + i ≡ j + suc i = omega arith in rw e at (numbered_as g (j + 1) rs i r h)
 
 -- a record is captured with its number
-pub captured_there : (g : GuestPlan) (i : ℕ) (r : Stamped) → slice_get g.capture.records i ≡ Some r → slice_get (captured g) i ≡ Some (captured_as i r)
-captured_there g i r h = let e : 0 + i ≡ i = omega arith in rw e at (numbered_as 0 g.capture.records i r h)
+pub captured_there : (g : GuestPlan) (i : ℕ) (r : Stamped) → slice_get g.capture.records i ≡ Some r → slice_get (captured g) i ≡ Some (captured_as g i r)
+captured_there g i r h = let e : 0 + i ≡ i = omega arith in rw e at (numbered_as g 0 g.capture.records i r h)
 
 pub place_none : (g : GuestPlan) (a q : ℕ) → place_of g a q 0 ≡ 0
 place_none g a q = refl
 
 -- one number on, a frame of the queue adds one
-pub place_next : (g : GuestPlan) (a q i : ℕ) (r : Stamped) → slice_get g.capture.records i ≡ Some r → place_of g a q (i + 1) ≡ place_of g a q i + (if goes_on g a q (captured_as i r) then 1 else 0)
+pub place_next : (g : GuestPlan) (a q i : ℕ) (r : Stamped) → slice_get g.capture.records i ≡ Some r → place_of g a q (i + 1) ≡ place_of g a q i + (if goes_on g a q (captured_as g i r) then 1 else 0)
 place_next g a q i r h =
-    ap (count (goes_on g a q)) (take_more (captured g) i (captured_as i r) (captured_there g i r h))
-    ∙ ap length (filter-append (goes_on g a q) (take i (captured g)) (captured_as i r ∷ []))
-    ∙ length-append (filter (goes_on g a q) (take i (captured g))) (filter (goes_on g a q) (captured_as i r ∷ []))
-    ∙ step (goes_on g a q (captured_as i r)) refl
+    ap (count (goes_on g a q)) (take_more (captured g) i (captured_as g i r) (captured_there g i r h))
+    ∙ ap length (filter-append (goes_on g a q) (take i (captured g)) (captured_as g i r ∷ []))
+    ∙ length-append (filter (goes_on g a q) (take i (captured g))) (filter (goes_on g a q) (captured_as g i r ∷ []))
+    ∙ step (goes_on g a q (captured_as g i r)) refl
   where
-    step : (b : Bool) → goes_on g a q (captured_as i r) ≡ b → length (filter (goes_on g a q) (take i (captured g))) + length (filter (goes_on g a q) (captured_as i r ∷ [])) ≡ place_of g a q i + (if goes_on g a q (captured_as i r) then 1 else 0)
+    step : (b : Bool) → goes_on g a q (captured_as g i r) ≡ b → length (filter (goes_on g a q) (take i (captured g))) + length (filter (goes_on g a q) (captured_as g i r ∷ [])) ≡ place_of g a q i + (if goes_on g a q (captured_as g i r) then 1 else 0)
     step true e = rw e refl
     step false e = rw e refl
 
 -- whether the frame of a number goes on a queue; past the capture none does
 abbrev pub goes_if : GuestPlan → ℕ → ℕ → ℕ → Option Stamped → Bool
 goes_if g a q i None = false
-goes_if g a q i (Some r) = goes_on g a q (captured_as i r)
+goes_if g a q i (Some r) = goes_on g a q (captured_as g i r)
 
 -- the same by its number alone
 abbrev pub goes_at : GuestPlan → ℕ → ℕ → ℕ → Bool
@@ -48,10 +48,10 @@ take_past [] (suc i) h = refl
 take_past (x ∷ xs) zero h = absurd (cc h)
 take_past (x ∷ xs) (suc i) h = ap (λ (ys : List _). x ∷ ys) (take_past xs i h)
 
-numbered_past : (j : ℕ) (rs : List Stamped) (i : ℕ) → slice_get rs i ≡ None → slice_get (numbered j rs) i ≡ None
-numbered_past j [] i h = refl
-numbered_past j (x ∷ rs) zero h = absurd (cc h)
-numbered_past j (x ∷ rs) (suc i) h = numbered_past (j + 1) rs i h
+numbered_past : (g : GuestPlan) (j : ℕ) (rs : List Stamped) (i : ℕ) → slice_get rs i ≡ None → slice_get (numbered g j rs) i ≡ None
+numbered_past g j [] i h = refl
+numbered_past g j (x ∷ rs) zero h = absurd (cc h)
+numbered_past g j (x ∷ rs) (suc i) h = numbered_past g (j + 1) rs i h
 
 pub place_step : (g : GuestPlan) (a q i : ℕ) → place_of g a q (i + 1) ≡ (if goes_at g a q i then place_of g a q i + 1 else place_of g a q i)
 place_step g a q i = step (slice_get g.capture.records i) refl
@@ -61,8 +61,8 @@ place_step g a q i = step (slice_get g.capture.records i) refl
     picked false n = omega arith
 
     step : (o : Option Stamped) → slice_get g.capture.records i ≡ o → place_of g a q (i + 1) ≡ (if goes_at g a q i then place_of g a q i + 1 else place_of g a q i)
-    step (Some r) e = place_next g a q i r e ∙ rw e (picked (goes_on g a q (captured_as i r)) (place_of g a q i))
-    step None e = rw (add-one, e) (ap (count (goes_on g a q)) (take_past (captured g) i (numbered_past 0 g.capture.records i e)))
+    step (Some r) e = place_next g a q i r e ∙ rw e (picked (goes_on g a q (captured_as g i r)) (place_of g a q i))
+    step None e = rw (add-one, e) (ap (count (goes_on g a q)) (take_past (captured g) i (numbered_past g 0 g.capture.records i e)))
 
 count_low : {X : Type 0} (test : X → Bool) (xs : List X) (i : ℕ) → count test (take i xs) ≤ i
 count_low test [] zero = omega arith

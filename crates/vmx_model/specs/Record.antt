@@ -1,5 +1,5 @@
 -- A record has the lists of a world; the words of looks, keys and images are left open.
-use Rattle.std.specs.Prelude.{◌≡◌, ℕ, List, [], map, take}
+use Rattle.std.specs.Prelude.{◌≡◌, ℕ, List, [], map, take, Some, slice_get}
 use Rattle.vmx_ends.specs.declared.frames.Sent.{Sent}
 use Rattle.vmx_ends.specs.declared.frames.Delivery.{Delivery}
 use Rattle.vmx_ends.specs.declared.made.TxMade.{TxMade}
@@ -14,6 +14,7 @@ use Rattle.vmx_model.specs.Types.{Packet}
 use Rattle.vmx_device_state.specs.SetupView.{setup_view}
 use Rattle.vmx_model.specs.Views.{Need, GuestView, RecordView}
 use Rattle.vmx_model.specs.Account.{need}
+use Rattle.vmx_model.specs.Stats.{tx_counts, rx_counts}
 use Rattle.vmx_model.specs.Serial.{Seat, World, Wire, Carried}
 
 -- a transmit queue's lists
@@ -55,7 +56,7 @@ carried_of p = record { tag = p.tag; frame = p.frame }
 abbrev pub wire_of : LinkView → Wire
 wire_of l = record { from = l.from; to = l.to; pushed = map carried_of l.pushed; pulled = map carried_of l.pulled }
 
--- a record has the lists of a run, and no link was found full
+-- a record has the lists of a run, its statistics are counts of these lists, and no link was found full
 pub record HasLists (r : RecordView) (w : World) : Type 0 where
   pub entries : map (λ (v : GuestView). v.entries) r.guests ≡ map (λ (s : Seat). s.entries) w.seats
   pub setups : map (λ (v : GuestView). map setup_view v.setups) r.guests ≡ map (λ (s : Seat). s.setups) w.seats
@@ -63,4 +64,6 @@ pub record HasLists (r : RecordView) (w : World) : Type 0 where
   pub tx : map (λ (v : GuestView). map lists_of_tx v.tx) r.guests ≡ map (λ (s : Seat). map lists_of_tx_core s.tx) w.seats
   pub rx : map (λ (v : GuestView). map lists_of_rx v.rx) r.guests ≡ map (λ (s : Seat). map lists_of_rx_core s.rx) w.seats
   pub links : map wire_of r.links ≡ w.wires
+  pub tx_stats : (g : ℕ) (v : GuestView) → slice_get r.guests g ≡ Some v → v.tx_stats ≡ tx_counts v.tx v.entries
+  pub rx_stats : (g : ℕ) (v : GuestView) → slice_get r.guests g ≡ Some v → v.rx_stats ≡ rx_counts r.links g v.entries
   pub never_full : map (λ (l : LinkView). l.full) r.links ≡ map (λ (l : Wire). []) w.wires

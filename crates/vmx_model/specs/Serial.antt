@@ -3,7 +3,7 @@ use Rattle.std.specs.Prelude.{ℕ, zero, suc, ◌+◌, ◌-◌, ◌%◌, max, Bo
 use Rattle.std.specs.Option.{option_map}
 use Rattle.vmx_filters.specs.declared.answer.Verdict.TheVariants as verdict
 use Rattle.vmx_ends.specs.declared.frames.Delivery.{Delivery}
-use Rattle.vmx_ends.specs.declared.meta.RxMeta.{RxMeta}
+use Rattle.vmx_ends.specs.declared.frames.Sent.{Sent}
 use Rattle.vmx_ends.specs.Core.{Outcome, takes, misses}
 use Rattle.vmx_ends.specs.TransmitCore as tx
 use Rattle.vmx_ends.specs.ReceiveCore as rx
@@ -16,8 +16,9 @@ use Rattle.vmx_model.specs.Types.{GuestPlan, Plan, Action, Deed, Tag, QueueName,
 use Rattle.vmx_model.specs.Lists.{upto}
 use Rattle.vmx_device_state.specs.SetupView.{SetupView}
 use Rattle.vmx_model.specs.Setups.{admits}
-use Rattle.vmx_model.specs.Meta.{meta_of}
-use Rattle.vmx_model.specs.Wire.{rx_queue, targets}
+use Rattle.vmx_model.specs.Meta.{Arrival, delivered_as, handed_as}
+use Rattle.vmx_model.specs.Totals.{wiring}
+use Rattle.vmx_model.specs.Wire.{wire_form, rx_queue, targets}
 use Rattle.vmx_model.specs.Plan.{Captured, captured, verdict_on, changed, first_setup, activate_dev, quiesce_dev, reset_dev, deed_commands}
 use Rattle.vmx_model.specs.Account.{tx_made, rx_made}
 
@@ -59,7 +60,7 @@ next_of c = slice_get c.delivered c.received
 
 -- a delivered frame as the driver hands it up
 abbrev pub handed : rx.RxCore → Delivery → Received
-handed c d = record { activation = c.made.name.activation; queue = c.made.name.queue; place = c.received; frame = d.frame }
+handed c d = handed_as c.made.name.activation c.made.name.queue c.received d
 
 -- the next frame of a queue of the activation
 abbrev pub up_next : ℕ → rx.RxCore → Option Received
@@ -84,8 +85,12 @@ pending [] = 0
 pending (c ∷ cs) = (length c.delivered - c.received) + pending cs
 
 -- polls until one hands up nothing: one that finds nothing changes nothing, so as many polls as frames are pending are enough
+unfoldable pub emptied : Seat → Seat
+emptied s = polls (s.begun - 1) (pending s.rx) s
+
+-- an active guest is emptied
 unfoldable pub drained : Seat → Seat
-drained s = if s.active then polls (s.begun - 1) (pending s.rx) s else s
+drained s = if s.active then emptied s else s
 
 -- ------------------------------------------------------------ commands
 
@@ -118,9 +123,9 @@ activated port g s = active_setting activate_dev (record s {
   rx = s.rx ++ map (new_rx port g s.begun) (upto 0 g.setup.rx_queues);
 })
 
--- all that was delivered is received before the next step
+-- the device goes idle, and then all that was delivered is received
 abbrev pub quieted : ℕ → Seat → Seat
-quieted number s = record (quiet_setting number (drained s)) { active = false }
+quieted number s = emptied (record (quiet_setting number s) { active = false })
 
 -- an update, as the state is
 abbrev pub set_command : Seat → ℕ → Seat
@@ -151,29 +156,29 @@ abbrev pub fate_with : ℕ → ℕ → rx.RxCore → Outcome → Fate
 fate_with a q c (takes passed end) = fate.Up a q (length c.delivered)
 fate_with a q c (misses ring position looks) = fate.NoBuffer a q ring position (length c.refused)
 
--- a delivery to the queue of the flow
-abbrev pub fate_on : ℕ → ℕ → List ℕ → Option rx.RxCore → Fate
-fate_on a q frame None = fate.Inactive
-fate_on a q frame (Some c) = fate_with a q c (rx.comes_to c (length frame))
+-- a delivery to the queue of the flow: the walk is sized by what is delivered
+abbrev pub fate_on : ℕ → ℕ → Arrival → Option rx.RxCore → Fate
+fate_on a q d None = fate.Inactive
+fate_on a q d (Some c) = fate_with a q c (rx.comes_to c (length d.frame))
 
 -- in an active guest: the filter, then the queue
 abbrev pub fate_in_turn : Seat → List ℕ → Verdict → Fate
 fate_in_turn s frame (verdict.No r) = fate.Filtered r
-fate_in_turn s frame verdict.Yes = fate_on (s.begun - 1) (rx_queue s.setup.rss frame) frame (find (rx_is (s.begun - 1) (rx_queue s.setup.rss frame)) s.rx)
+fate_in_turn s frame verdict.Yes = fate_on (s.begun - 1) (rx_queue s.setup.rss frame) (delivered_as s.setup frame) (find (rx_is (s.begun - 1) (rx_queue s.setup.rss frame)) s.rx)
 
 -- what becomes of a frame that reaches a guest now
 abbrev pub fate_at : Seat → List ℕ → List ℕ → Fate
 fate_at s mac frame = if s.active then fate_in_turn s frame (admits s.setup mac frame) else fate.Inactive
 
 -- a queue after a delivery is tried
-unfoldable pub tried : List ℕ → RxMeta → rx.RxCore → rx.RxCore
-tried frame meta c = rx.after c (rx.delivers frame meta)
+unfoldable pub tried : Arrival → rx.RxCore → rx.RxCore
+tried d c = rx.after c (rx.delivers d.frame d.meta)
 
 -- the queue of a fate after it
-abbrev pub marked : List ℕ → RxMeta → Fate → List rx.RxCore → List rx.RxCore
-marked frame meta (fate.Up a q place) cs = where_it (rx_is a q) (tried frame meta) cs
-marked frame meta (fate.NoBuffer a q ring position look) cs = where_it (rx_is a q) (tried frame meta) cs
-marked frame meta f cs = cs
+abbrev pub marked : Arrival → Fate → List rx.RxCore → List rx.RxCore
+marked d (fate.Up a q place) cs = where_it (rx_is a q) (tried d) cs
+marked d (fate.NoBuffer a q ring position look) cs = where_it (rx_is a q) (tried d) cs
+marked d f cs = cs
 
 -- the driver polls where it is due
 abbrev pub polled_if : Bool → Seat → Seat
@@ -184,7 +189,7 @@ abbrev pub arrived : ℕ → List ℕ → ℕ → ℕ → List ℕ → Seat → 
 arrived poll_every mac from place frame s = polled_if (nat_eq ((s.seen + 1) % poll_every) 0) (record s {
   seen = s.seen + 1;
   entries = s.entries ++ entry.In from place (fate_at s mac frame) ∷ [];
-  rx = marked frame (meta_of s.setup.rss frame) (fate_at s mac frame) s.rx;
+  rx = marked (delivered_as s.setup frame) (fate_at s mac frame) s.rx;
 })
 
 -- ------------------------------------------------------------ all guests
@@ -251,29 +256,29 @@ reaches plan t frame w to = record {
 }
 
 -- the frame is posted, taken, completed and reaped
-abbrev pub through : List ℕ → tx.TxCore → tx.TxCore
-through frame c = tx.happens (tx.happens (tx.happens (tx.happens c (tx.posts frame)) tx.takes) tx.completes) tx.reaps
+abbrev pub through : Sent → tx.TxCore → tx.TxCore
+through posted c = tx.happens (tx.happens (tx.happens (tx.happens c (tx.posts posted)) tx.takes) tx.completes) tx.reaps
 
 -- the frame goes through its queue
-abbrev pub transmitted : ℕ → ℕ → List ℕ → Seat → Seat
-transmitted a q frame s = record s { tx = where_it (tx_is a q) (through frame) s.tx }
+abbrev pub transmitted : ℕ → ℕ → Sent → Seat → Seat
+transmitted a q posted s = record s { tx = where_it (tx_is a q) (through posted) s.tx }
 
 -- to each target in port order, or to nobody
 abbrev pub spread : Plan → Tag → List ℕ → List ℕ → World → World
 spread plan t frame [] w = record w { seats = at_number t.guest (noted (entry.Lost t)) w.seats }
 spread plan t frame (to ∷ tos) w = fold (reaches plan t frame) w (to ∷ tos)
 
--- a frame with its verdict: only one that is sent moves
-abbrev pub sent_by : Plan → ℕ → List ℕ → Sending → World → World
-sent_by plan g frame (sending.Sent a q k) w = spread plan (record { guest = g; activation = a; queue = q; place = k }) frame (targets plan.guests g frame) (record w { seats = at_number g (transmitted a q frame) w.seats })
-sent_by plan g frame sending.Down w = w
-sent_by plan g frame sending.Short w = w
-sent_by plan g frame sending.TooLong w = w
+-- a frame with its verdict: only one that is sent moves; it is posted as captured, and its wire form goes to its targets
+abbrev pub sent_by : Plan → ℕ → Sent → Sending → World → World
+sent_by plan g posted (sending.Sent a q k) w = spread plan (record { guest = g; activation = a; queue = q; place = k }) (wire_form posted) (targets (wiring plan.guests) g (wire_form posted)) (record w { seats = at_number g (transmitted a q posted) w.seats })
+sent_by plan g posted sending.Down w = w
+sent_by plan g posted sending.Short w = w
+sent_by plan g posted sending.TooLong w = w
 
 -- the frame of a number, if there is one
 abbrev pub sends : Plan → ℕ → GuestPlan → Option Captured → World → World
 sends plan g p None w = w
-sends plan g p (Some c) w = sent_by plan g c.frame (verdict_on p c) w
+sends plan g p (Some c) w = sent_by plan g c.posted (verdict_on p c) w
 
 -- the actions of number n, in order
 abbrev pub acted : ℕ → GuestPlan → ℕ → Seat → Seat

@@ -8,6 +8,7 @@ use Rattle.vmx_frame.specs.declared.kinds.Flow.{Flow}
 use Rattle.vmx_shared_area.specs.declared.rss.Rss.{Rss}
 use Rattle.vmx_shared_area.specs.declared.setup.Setup.{Setup}
 use Rattle.vmx_device_state.specs.SetupView.{rss_view, setup_view}
+use Rattle.vmx_shared_area.specs.declared.offsets.TheConstants.{RX_MODE_PROMISC}
 use Rattle.vmx_filters.specs.Admission.{has_mode, is_foreign, class_verdict, verdict_of}
 use Rattle.vmx_filters.specs.declared.answer.Verdict.{Verdict}
 use Rattle.vmx_filters.specs.declared.answer.Verdict.TheVariants.{Yes, No}
@@ -23,7 +24,7 @@ class_agrees Multicast s mac to = refl
 -- the filter's answer is that of its setup's plain data
 pub admits_agrees : (s : Setup) (mac frame : List ℕ) → admits (setup_view s) mac frame ≡ verdict_of s.filter mac frame
 unfolding admits verdict_of
-admits_agrees s mac frame = ap (λ (v : Verdict). if has_mode s.filter.mode 4 then Yes else if is_foreign s.filter.vlans (tag_of frame) then No rule.Vlan else v) (class_agrees (class_of frame) s mac (destination frame))
+admits_agrees s mac frame = ap (λ (v : Verdict). if has_mode s.filter.mode RX_MODE_PROMISC then Yes else if is_foreign s.filter.vlans (tag_of frame) then No rule.Vlan else v) (class_agrees (class_of frame) s mac (destination frame))
 
 -- the choice of queue is that of its setting's plain data
 pub choice_agrees : (o : Option Rss) (flow : Flow) → choice (option_map rss_view o) flow ≡ choice_of o flow

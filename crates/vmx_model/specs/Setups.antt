@@ -6,6 +6,7 @@ use Rattle.vmx_frame.specs.declared.kinds.Class.{Class}
 use Rattle.vmx_frame.specs.declared.kinds.Class.TheVariants.{Broadcast, Multicast, Unicast}
 use Rattle.vmx_frame.specs.declared.kinds.Flow.{Flow}
 use Rattle.vmx_device_state.specs.SetupView.{RssView, SetupView}
+use Rattle.vmx_shared_area.specs.declared.offsets.TheConstants.{RX_MODE_UCAST, RX_MODE_MCAST, RX_MODE_BCAST, RX_MODE_ALL_MULTI, RX_MODE_PROMISC}
 use Rattle.vmx_filters.specs.Admission.{has_mode, is_foreign, pass_or}
 use Rattle.vmx_filters.specs.declared.answer.Verdict.{Verdict}
 use Rattle.vmx_filters.specs.declared.answer.Verdict.TheVariants.{Yes, No}
@@ -15,14 +16,14 @@ use Rattle.vmx_rss.specs.declared.answer.Choice.{Choice}
 
 -- what a frame of this class needs (mode bits: Linux vmxnet3_defs.h, VMXNET3_RXM)
 abbrev pub class_admits : Class → SetupView → List ℕ → List ℕ → Verdict
-class_admits Unicast s mac to = pass_or (has_mode s.mode 0 && bytes_eq to mac) rule.Unicast
-class_admits Broadcast s mac to = pass_or (has_mode s.mode 2) rule.Broadcast
-class_admits Multicast s mac to = pass_or (has_mode s.mode 3 || has_mode s.mode 1 && list_any (λ m. bytes_eq m to) s.macs) rule.Multicast
+class_admits Unicast s mac to = pass_or (has_mode s.mode RX_MODE_UCAST && bytes_eq to mac) rule.Unicast
+class_admits Broadcast s mac to = pass_or (has_mode s.mode RX_MODE_BCAST) rule.Broadcast
+class_admits Multicast s mac to = pass_or (has_mode s.mode RX_MODE_ALL_MULTI || has_mode s.mode RX_MODE_MCAST && list_any (λ m. bytes_eq m to) s.macs) rule.Multicast
 
 -- whether a setup's filter lets a frame in, or the rule that refuses it: PROMISC, then the VLAN, then the class
 unfoldable pub admits : SetupView → List ℕ → List ℕ → Verdict
 admits s mac frame =
-    if has_mode s.mode 4 then Yes
+    if has_mode s.mode RX_MODE_PROMISC then Yes
     else if is_foreign s.vlans (tag_of frame) then No rule.Vlan
     else class_admits (class_of frame) s mac (destination frame)
 

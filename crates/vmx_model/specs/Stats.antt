@@ -1,4 +1,5 @@
 -- Statistics are counts of frames and entries, in the order of a queue's descriptor.
+use Rattle.vmx_layout.specs.declared.register.TheConstants.{MAX_QUEUES}
 use Rattle.std.specs.Prelude.{ℕ, ◌+◌, ◌-◌, ◌^◌, min, Bool, true, false, nat_eq, if◌then◌else◌, List, [], ◌∷◌, length, map, filter, flat_map}
 use Rattle.vmx_frame.specs.Ethernet.{class_of}
 use Rattle.vmx_frame.specs.declared.kinds.Class.{Class}
@@ -76,8 +77,8 @@ lacks_buffer q f = false
 
 -- of each of eight transmit queues: no errors, the frames without target as discards
 abbrev pub tx_counts : List TxView → List Entry → List (List ℕ)
-tx_counts tx es = map (λ q. counted (taken_on q tx) 0 (count (is_lost_on q) es)) (upto 0 8)
+tx_counts tx es = map (λ q. counted (taken_on q tx) 0 (count (is_lost_on q) es)) (upto 0 MAX_QUEUES)
 
 -- of each of eight receive queues: the frames without buffer, no errors
 abbrev pub rx_counts : List LinkView → ℕ → List Entry → List (List ℕ)
-rx_counts links port es = map (λ q. counted (map (λ (u : CameUp). u.packet.frame) (filter (on_rx q) (came_up links port es))) (count (lacks_buffer q) (fates_in es)) 0) (upto 0 8)
+rx_counts links port es = map (λ q. counted (map (λ (u : CameUp). u.packet.frame) (filter (on_rx q) (came_up links port es))) (count (lacks_buffer q) (fates_in es)) 0) (upto 0 MAX_QUEUES)

@@ -1,6 +1,7 @@
 -- What a plan's guests have together (own to this project).
 use Rattle.std.specs.Prelude.{ℕ, ◌+◌, ◌*◌, Bool, List, [], ◌∷◌, length, map}
 use Rattle.vmx_pcap.specs.declared.records.Stamped.{Stamped}
+use Rattle.vmx_model.specs.declared.limits.TheConstants.{RECORD_HEADER}
 use Rattle.vmx_switch.specs.Ports.{Wiring, is_wiring}
 use Rattle.vmx_model.specs.declared.guest.GuestPlan.{GuestPlan}
 
@@ -37,7 +38,7 @@ records_of (g ∷ gs) = length g.capture.records + records_of gs
 -- a record has 16 bytes before its frame
 abbrev pub frame_bytes : List Stamped → ℕ
 frame_bytes [] = 0
-frame_bytes (r ∷ rs) = 16 + length r.frame + frame_bytes rs
+frame_bytes (r ∷ rs) = RECORD_HEADER + length r.frame + frame_bytes rs
 
 -- the bytes of all captures: records and tails
 abbrev pub bytes_of : List GuestPlan → ℕ

@@ -11,12 +11,6 @@ pub record Need : Type 0 where
   pub ring : ℕ
   pub position : ℕ
 
--- a frame that a device delivered, with hash and kind of its flow
-pub record Arrival : Type 0 where
-  pub frame : List ℕ
-  pub hash : ℕ
-  pub kind : ℕ
-
 -- the statistics of the eight queues of a side, ten counts each in the order of a queue's descriptor
 pub record GuestView : Type 0 where
   pub entries : List Entry

@@ -14,6 +14,8 @@ pub struct GuestParts {
     /// The permanent Ethernet address.
     pub mac: [u8; 6],
     pub sniffer: bool,
+    /// The VLAN of its frames.
+    pub vlan: Option<u16>,
     /// The bytes of a transmit buffer.
     pub piece: u32,
     /// The BODY descriptors behind each HEAD of ring 1.

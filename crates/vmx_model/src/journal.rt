@@ -34,6 +34,11 @@ pub enum Fate {
         position: u64,
         look: u64,
     },
+    /// The queue of its flow was stopped.
+    Stopped {
+        activation: u32,
+        queue: u32,
+    },
     /// The frame was posted and not taken, since a scripted reset ended its activation.
     Discarded,
     /// The frame has no target.
@@ -99,4 +104,6 @@ pub struct Received {
     /// The number of frames that this queue handed up before in this activation.
     pub place: u64,
     pub frame: Bytes,
+    /// The two bytes of the tag that was taken out.
+    pub tci: Option<u16>,
 }

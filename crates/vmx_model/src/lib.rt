@@ -9,6 +9,7 @@ mod guest_checks;
 mod guest_parts;
 mod journal;
 mod laws;
+mod limits;
 mod makers;
 mod plan;
 mod plan_checks;
@@ -20,10 +21,19 @@ pub use deeds::{Action, Deed};
 pub use guest::GuestPlan;
 pub use guest_parts::GuestParts;
 pub use journal::{Entry, Fate, Journal, Received, Way};
-pub use laws::{bags_tell, law_of_parts, nothing_is_left, runs_in_order};
+pub use laws::{
+    bags_tell, frames_have_stamps, law_of_parts, links_tell, nothing_is_left,
+    only_a_reset_discards, runs_in_order,
+};
+pub use limits::{
+    ABOVE_MTU, LINK_CAPACITY, MAX_ACTIONS, MAX_ALL_DESCRIPTORS, MAX_BYTES, MAX_COPIES, MAX_NAME,
+    MAX_NUMBER, MAX_PREFIX, MAX_RECORDS, MAX_VLAN, RECORD_HEADER,
+};
 pub use plan::Plan;
 pub use sending::Sending;
-pub use steps::{entries_add, frames_add, journal_grows, run_goes_on};
+pub use steps::{
+    entries_add, frames_add, journal_grows, run_goes_on, spread_in_turns, stays_ready,
+};
 pub use verdicts::verdict;
 
 #[cfg(test)]

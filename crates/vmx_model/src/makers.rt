@@ -4,6 +4,7 @@
 use crate::guest::GuestPlan;
 use crate::guest_checks::{fits_guest, is_prefix};
 use crate::guest_parts::GuestParts;
+use crate::limits::MAX_COPIES;
 use crate::plan::Plan;
 use crate::plan_checks::{bytes_fit, descriptors_fit, have_ports, names_differ, records_fit};
 use vmx_io::{List, Text};
@@ -12,9 +13,9 @@ impl GuestPlan {
     ghost use Rattle.std.specs.Prelude.{◌≡◌, is_some, IfSome};
     ghost use Rattle.vmx_model.specs.Makers.{parts_of, guest_fits};
 
-    /// The guest of these parts, where each is in its range: name, address, piece size (576 to 4,096 bytes), BODY descriptors (0 to 2),
-    /// and a script of at most 256 actions in the order of their numbers, up to 262,144, each deed in its range and in its turn. `None`
-    /// where one of them is not.
+    /// The guest of these parts, where each is in its range: name, address, VLAN (1 to 4,094), piece size (576 or, with transmit data
+    /// rings, 640 to 4,096 bytes), BODY descriptors (0 to 2), setup, and a script of at most 256 actions in the order of their numbers, up
+    /// to 262,144, each deed in its range and in its turn. `None` where one of them is not.
     pub fn of(parts: GuestParts) -> Option<GuestPlan>
         ensures fits { is_some result ≡ guest_fits parts }
         ensures parts { IfSome result (λ guest. parts_of guest ≡ parts) }
@@ -26,6 +27,7 @@ impl GuestPlan {
             name,
             mac,
             sniffer,
+            vlan,
             piece,
             bodies,
             setup,
@@ -36,6 +38,7 @@ impl GuestPlan {
             name,
             mac,
             sniffer,
+            vlan,
             piece,
             bodies,
             setup,
@@ -74,16 +77,13 @@ ghost use Rattle.std.specs.Prelude.{◌≡◌};
 ghost use Rattle.vmx_model.specs.Makers.{plan_fits};
 
 fn fits_plan(prefix: &Text, poll_every: u32, guests: &[GuestPlan]) -> bool
-    ensures { result ≡ plan_fits prefix.now poll_every guests.now }
+    ensures fits { result ≡ plan_fits prefix.now poll_every guests.now }
 {
     is_prefix(prefix.as_str().as_bytes())
-        && (1 <= poll_every && poll_every <= MOST_COPIES)
+        && (1 <= poll_every && poll_every <= MAX_COPIES)
         && names_differ(guests)
         && have_ports(guests)
         && descriptors_fit(guests)
         && records_fit(guests)
         && bytes_fit(guests)
 }
-
-/// The most copies that may reach a guest before its driver polls.
-const MOST_COPIES: u32 = 4096;

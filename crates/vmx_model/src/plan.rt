@@ -3,6 +3,7 @@
 
 ghost use Rattle.std.specs.Prelude.{◌≡◌, ◌≤◌, ℕ, map, true};
 ghost use Rattle.vmx_switch.specs.Ports.{are_distinct};
+ghost use Rattle.vmx_model.specs.declared.limits.TheConstants.{MAX_COPIES, MAX_ALL_DESCRIPTORS, MAX_RECORDS, MAX_BYTES};
 ghost use Rattle.vmx_model.specs.Ranges.{is_prefix};
 ghost use Rattle.vmx_model.specs.Totals.{names_of, have_ports, descriptors_of, records_of, bytes_of};
 
@@ -20,10 +21,10 @@ pub struct Plan {
     pub guests: List<GuestPlan>,
     pub ghost prefix_fits: { is_prefix prefix ≡ true },
     pub ghost poll_low: { 1 ≤ poll_every },
-    pub ghost poll_high: { poll_every ≤ 4096 },
+    pub ghost poll_high: { poll_every ≤ MAX_COPIES },
     pub ghost names_differ: { are_distinct (names_of guests) ≡ true },
     pub ghost ports: { have_ports guests ≡ true },
-    pub ghost descriptors: { descriptors_of guests ≤ 65536 },
-    pub ghost records: { records_of guests ≤ 262144 },
-    pub ghost bytes: { bytes_of guests ≤ 67108864 },
+    pub ghost descriptors: { descriptors_of guests ≤ MAX_ALL_DESCRIPTORS },
+    pub ghost records: { records_of guests ≤ MAX_RECORDS },
+    pub ghost bytes: { bytes_of guests ≤ MAX_BYTES },
 }

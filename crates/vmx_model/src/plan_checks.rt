@@ -4,31 +4,18 @@
 ghost use Rattle.std.specs.Prelude.{◌≡◌, ◌+◌, ◌-◌, ◌*◌, ◌≤◌, nat_le, bytes_eq, SomeIff};
 ghost use Rattle.std.specs.List.{list_any};
 ghost use Rattle.vmx_switch.specs.Ports.{are_distinct};
+ghost use Rattle.vmx_model.specs.declared.limits.TheConstants.{MAX_ALL_DESCRIPTORS, MAX_RECORDS, MAX_BYTES};
 ghost use Rattle.vmx_model.specs.Totals.{names_of, have_ports as have_ports_of, descriptors_of, records_of, bytes_of, frame_bytes};
 
 use crate::guest::GuestPlan;
+use crate::limits::{MAX_ALL_DESCRIPTORS, MAX_BYTES, MAX_RECORDS, RECORD_HEADER};
 use vmx_pcap::Capture;
 use vmx_shared_area::Setup;
-use vmx_switch::Table;
-
-/// The most guests at the switch.
-const MOST_GUESTS: usize = 16;
-
-/// The most descriptors of all rings.
-const MOST_DESCRIPTORS: u32 = 65_536;
-
-/// The most records of all captures.
-const MOST_RECORDS: usize = 262_144;
-
-/// The most bytes of all captures.
-const MOST_BYTES: usize = 67_108_864;
-
-/// The bytes of a record before its frame.
-const RECORD_HEADER: usize = 16;
+use vmx_switch::{MAX_PORTS, Table};
 
 /// Whether no name stands twice.
 pub(crate) fn names_differ(guests: &[GuestPlan]) -> bool
-    ensures { result ≡ are_distinct (names_of guests.now) }
+    ensures differ { result ≡ are_distinct (names_of guests.now) }
 {
     for (i, guest) in guests.iter().enumerate() {
         if is_named(guest.name.as_str().as_bytes(), &guests[i + 1..]) {
@@ -40,7 +27,7 @@ pub(crate) fn names_differ(guests: &[GuestPlan]) -> bool
 
 /// Whether one of the guests has this name.
 fn is_named(name: &[u8], guests: &[GuestPlan]) -> bool
-    ensures { result ≡ list_any (bytes_eq name.now) (names_of guests.now) }
+    ensures named { result ≡ list_any (bytes_eq name.now) (names_of guests.now) }
 {
     for guest in guests {
         if name == guest.name.as_str().as_bytes() {
@@ -52,13 +39,13 @@ fn is_named(name: &[u8], guests: &[GuestPlan]) -> bool
 
 /// Whether the switch can be made of the guests' addresses: 1 to 16 of them, all different.
 pub(crate) fn have_ports(guests: &[GuestPlan]) -> bool
-    ensures { result ≡ have_ports_of guests.now }
+    ensures ports { result ≡ have_ports_of guests.now }
 {
-    if guests.len() > MOST_GUESTS {
+    if guests.len() > MAX_PORTS {
         return false;
     }
-    let mut macs = [[0; 6]; MOST_GUESTS];
-    let mut sniffers = [false; MOST_GUESTS];
+    let mut macs = [[0; 6]; MAX_PORTS];
+    let mut sniffers = [false; MAX_PORTS];
     for (i, guest) in guests.iter().enumerate() {
         macs[i] = guest.mac;
         sniffers[i] = guest.sniffer;
@@ -68,9 +55,9 @@ pub(crate) fn have_ports(guests: &[GuestPlan]) -> bool
 
 /// Whether the rings of all guests have at most 65,536 descriptors.
 pub(crate) fn descriptors_fit(guests: &[GuestPlan]) -> bool
-    ensures { result ≡ nat_le (descriptors_of guests.now) 65536 }
+    ensures fit { result ≡ nat_le (descriptors_of guests.now) MAX_ALL_DESCRIPTORS }
 {
-    let mut left = MOST_DESCRIPTORS;
+    let mut left = MAX_ALL_DESCRIPTORS;
     for guest in guests {
         match left.checked_sub(descriptors(&guest.setup)) {
             Some(rest) => left = rest,
@@ -82,7 +69,7 @@ pub(crate) fn descriptors_fit(guests: &[GuestPlan]) -> bool
 
 /// The descriptors of all rings of a guest.
 fn descriptors(setup: &Setup) -> u32
-    ensures { result ≡ setup.now.tx_queues * setup.now.tx_ring + setup.now.rx_queues * (setup.now.rx_ring1 + setup.now.rx_ring2) }
+    ensures sum { result ≡ setup.now.tx_queues * setup.now.tx_ring + setup.now.rx_queues * (setup.now.rx_ring1 + setup.now.rx_ring2) }
 {
     u32::from(setup.tx_queues) * setup.tx_ring
         + u32::from(setup.rx_queues) * (setup.rx_ring1 + setup.rx_ring2)
@@ -90,9 +77,9 @@ fn descriptors(setup: &Setup) -> u32
 
 /// Whether the captures of all guests have at most 262,144 records.
 pub(crate) fn records_fit(guests: &[GuestPlan]) -> bool
-    ensures { result ≡ nat_le (records_of guests.now) 262144 }
+    ensures fit { result ≡ nat_le (records_of guests.now) MAX_RECORDS }
 {
-    let mut left = MOST_RECORDS;
+    let mut left = MAX_RECORDS;
     for guest in guests {
         match left.checked_sub(guest.capture.records.len()) {
             Some(rest) => left = rest,
@@ -104,9 +91,9 @@ pub(crate) fn records_fit(guests: &[GuestPlan]) -> bool
 
 /// Whether the captures of all guests have at most 67,108,864 bytes.
 pub(crate) fn bytes_fit(guests: &[GuestPlan]) -> bool
-    ensures { result ≡ nat_le (bytes_of guests.now) 67108864 }
+    ensures fit { result ≡ nat_le (bytes_of guests.now) MAX_BYTES }
 {
-    let mut left = MOST_BYTES;
+    let mut left = MAX_BYTES;
     for guest in guests {
         match bytes_left(left, &guest.capture) {
             Some(rest) => left = rest,
@@ -118,7 +105,7 @@ pub(crate) fn bytes_fit(guests: &[GuestPlan]) -> bool
 
 /// What is left of so many bytes behind the capture, or `None` where it has more.
 fn bytes_left(bytes: usize, capture: &Capture) -> Option<usize>
-    ensures { SomeIff result (frame_bytes capture.now.records + capture.now.tail ≤ bytes) (bytes - (frame_bytes capture.now.records + capture.now.tail)) }
+    ensures left { SomeIff result (frame_bytes capture.now.records + capture.now.tail ≤ bytes) (bytes - (frame_bytes capture.now.records + capture.now.tail)) }
 {
     let mut left = bytes.checked_sub(capture.tail as usize)?;
     for record in capture.records.as_slice() {

@@ -17,6 +17,8 @@ enum Step {
     Activate,
     Reset,
     Mode(u32),
+    /// A multicast table with one address of this first byte.
+    Multicast(u8),
     /// An indirection table of so many entries, the first of them and the first behind them. All others are 0.
     Table(u16, u8, u8),
 }
@@ -27,28 +29,52 @@ struct Tried<'a> {
     name: &'a str,
     /// The first byte of the address.
     first: u8,
+    vlan: Option<u16>,
     piece: u32,
     bodies: u32,
     wide: bool,
     rss: bool,
+    more: More,
     script: &'a [(u32, Step)],
 }
+
+/// What else a setup has.
+#[derive(Clone, Copy)]
+struct More {
+    auto_mask: bool,
+    /// All moderation levels.
+    level: u8,
+    tx_data: bool,
+    csum: bool,
+    /// The first byte of the one multicast address.
+    group: u8,
+}
+
+const NO_MORE: More = More {
+    auto_mask: true,
+    level: 0,
+    tx_data: false,
+    csum: false,
+    group: 1,
+};
 
 const PLAIN: Tried<'static> = Tried {
     name: "a",
     first: 0,
+    vlan: None,
     piece: 4096,
     bodies: 0,
     wide: false,
     rss: false,
+    more: NO_MORE,
     script: &[],
 };
 
 /// A setup with four receive queues, and 320 descriptors or, where it is wide, 65,536.
-fn setup(wide: bool, rss: bool) -> Setup {
+fn setup(wide: bool, rss: bool, more: More) -> Setup {
     let filter = Filter {
         mode: 7,
-        multicast: MacTable::empty(),
+        multicast: one_address(more.group),
         vlans: [u32::MAX; 128],
     };
     let ring = ring(wide);
@@ -61,9 +87,20 @@ fn setup(wide: bool, rss: bool) -> Setup {
         mtu: 1500,
         filter,
         rss: setting(rss),
-        auto_mask: true,
-        levels: [0; 25],
+        auto_mask: more.auto_mask,
+        levels: [more.level; 25],
+        tx_data: more.tx_data,
+        rx_data: true,
+        strip: true,
+        csum: more.csum,
     }
+}
+
+/// A multicast table with one address of this first byte.
+fn one_address(first: u8) -> MacTable {
+    let mut macs = [[0; 6]; 256];
+    macs[0] = [first, 0, 0x5e, 0, 0, 1];
+    MacTable { count: 1, macs }
 }
 
 fn tx_queues(wide: bool) -> u8
@@ -84,7 +121,7 @@ fn ring(wide: bool) -> u32
 
 /// A setting whose four entries name queue 0.
 fn setting(rss: bool) -> Option<Rss>
-    ensures { IfSome result (λ r. (i : ℕ) → slice_index r.table i ≡ 0) }
+    ensures zeros { IfSome result (λ r. (i : ℕ) → slice_index r.table i ≡ 0) }
 {
     if !rss {
         return None;
@@ -103,6 +140,9 @@ fn deed(step: Step) -> Deed {
         Step::Activate => Deed::Activate,
         Step::Reset => Deed::Reset,
         Step::Mode(mode) => Deed::Mode { mode },
+        Step::Multicast(first) => Deed::Multicast {
+            table: one_address(first),
+        },
         Step::Table(size, entry, behind) => {
             let mut table = [0; 128];
             table[0] = entry;
@@ -126,15 +166,21 @@ fn parts(alloc: Global, tried: Tried<'_>) -> Result<GuestParts, AllocError> {
         name: Text::from_str(alloc, tried.name)?,
         mac: [tried.first, 0x50, 0x56, 0, 0, 1],
         sniffer: false,
+        vlan: tried.vlan,
         piece: tried.piece,
         bodies: tried.bodies,
-        setup: setup(tried.wide, tried.rss),
+        setup: setup(tried.wide, tried.rss, tried.more),
         capture: Capture {
             records: List::new(alloc),
             tail: 0,
         },
         script: List::of(script),
     })
+}
+
+/// Whether the maker makes a guest of these.
+fn is_guest(alloc: Global, tried: Tried<'_>) -> Result<bool, AllocError> {
+    Ok(GuestPlan::of(parts(alloc, tried)?).is_some())
 }
 
 #[test]
@@ -160,13 +206,82 @@ fn a_guest_is_made_exactly_of_parts_in_their_ranges(rt: HostRuntime) -> Result<(
             ..PLAIN
         };
         assert_eq!(rt;
-            GuestPlan::of(parts(alloc, tried)?).is_some(),
+            is_guest(alloc, tried)?,
             fits,
             "{name} {first} {piece} {bodies}"
         );
     }
+    Ok(())
+}
+
+#[test]
+fn a_vlan_is_1_to_4094(rt: HostRuntime) -> Result<(), Fail> {
+    let alloc = rt.alloc();
+    for (vlan, fits) in [(0, false), (1, true), (4094, true), (4095, false)] {
+        let tried = Tried {
+            vlan: Some(vlan),
+            ..PLAIN
+        };
+        assert_eq!(rt; is_guest(alloc, tried)?, fits, "{vlan}");
+    }
+    Ok(())
+}
+
+#[test]
+fn pieces_go_by_data_rings(rt: HostRuntime) -> Result<(), Fail> {
+    let alloc = rt.alloc();
+    for (tx_data, piece, fits) in [
+        (false, 639, true),
+        (true, 575, false),
+        (true, 576, false),
+        (true, 639, false),
+        (true, 640, true),
+        (true, 4096, true),
+        (true, 4097, false),
+    ] {
+        let tried = Tried {
+            piece,
+            more: More { tx_data, ..NO_MORE },
+            ..PLAIN
+        };
+        assert_eq!(rt; is_guest(alloc, tried)?, fits, "{tx_data} {piece}");
+    }
+    Ok(())
+}
+
+#[test]
+fn setups_mask_themselves_check_nothing_and_name_groups(rt: HostRuntime) -> Result<(), Fail> {
+    let alloc = rt.alloc();
+    for (auto_mask, level, csum, group, fits) in [
+        (true, 0, false, 0x33, true),
+        (false, 0, false, 1, false),
+        (true, 1, false, 1, false),
+        (true, 0, true, 1, false),
+        (true, 0, false, 0, false),
+        (true, 0, false, 0xfe, false),
+    ] {
+        let more = More {
+            auto_mask,
+            level,
+            csum,
+            group,
+            ..NO_MORE
+        };
+        let tried = Tried { more, ..PLAIN };
+        assert_eq!(rt;
+            is_guest(alloc, tried)?,
+            fits,
+            "{auto_mask} {level} {csum} {group}"
+        );
+    }
+    Ok(())
+}
+
+#[test]
+fn scripts_have_their_ranges_and_turns(rt: HostRuntime) -> Result<(), Fail> {
+    let alloc = rt.alloc();
     let long = [(0, Step::Mode(1)); 257];
-    let scripts: [(&[(u32, Step)], bool); 17] = [
+    let scripts: [(&[(u32, Step)], bool); 19] = [
         (&long[..256], true),
         (&long, false),
         (
@@ -184,6 +299,8 @@ fn a_guest_is_made_exactly_of_parts_in_their_ranges(rt: HostRuntime) -> Result<(
         (&[(0, Step::Quiesce), (1, Step::Quiesce)], false),
         (&[(0, Step::Quiesce), (1, Step::Reset)], false),
         (&[(0, Step::Mode(32))], false),
+        (&[(0, Step::Multicast(3))], true),
+        (&[(0, Step::Multicast(2))], false),
         (&[(0, Step::Table(1, 3, 0))], true),
         (&[(0, Step::Table(128, 3, 0))], true),
         (&[(0, Step::Table(0, 0, 0))], false),
@@ -206,13 +323,13 @@ fn a_guest_is_made_exactly_of_parts_in_their_ranges(rt: HostRuntime) -> Result<(
             script,
             ..PLAIN
         };
-        assert_eq!(rt; GuestPlan::of(parts(alloc, tried)?).is_some(), fits, "{i}");
+        assert_eq!(rt; is_guest(alloc, tried)?, fits, "{i}");
     }
     let tried = Tried {
         script: &[(0, Step::Table(1, 3, 0))],
         ..PLAIN
     };
-    assert!(rt; GuestPlan::of(parts(alloc, tried)?).is_none());
+    assert!(rt; !is_guest(alloc, tried)?);
     Ok(())
 }
 

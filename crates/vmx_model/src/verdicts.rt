@@ -1,7 +1,10 @@
 //! The verdict on a captured frame, by the plan alone. A frame is sent where its guest is not quiesced and it has at least 14 bytes, an
 //! Ethernet header, and at most 18 more than the MTU, that header and a VLAN tag. No call takes memory.
 
-ghost use Rattle.std.specs.Prelude.{◌≡◌, ◌<◌, ℕ, false, Some, length, slice_get};
+ghost use Rattle.vmx_frame.specs.declared.ethernet.TheConstants.{HEADER_LEN};
+ghost use Rattle.vmx_frame.specs.Ethernet.{is_tagged as is_tagged_of};
+ghost use Rattle.vmx_model.specs.Wire.{wire_form, posted_form};
+ghost use Rattle.std.specs.Prelude.{◌≡◌, ◌<◌, ◌≤◌, ◌&&◌, not, is_some, ℕ, false, Some, length, slice_get};
 ghost use Rattle.vmx_model.specs.Types.{Stamped as StampedValue, GuestPlan as GuestValue};
 ghost use Rattle.vmx_model.specs.Deeds.{begins as begins_of, quiet_after as quiet_by, is_quiet};
 ghost use Rattle.vmx_model.specs.PlanSteps.{goes_at};
@@ -9,31 +12,47 @@ ghost use Rattle.vmx_model.specs.Plan.{past, activation_at as activation_by, is_
 
 use crate::deeds::{Action, Deed};
 use crate::guest::GuestPlan;
+use crate::limits::ABOVE_MTU;
 use crate::plan::Plan;
 use crate::sending::Sending;
-use vmx_frame::flow;
+use vmx_frame::{HEADER_LEN, TAG_LEN, flow, is_tagged};
 use vmx_rss::tx_queue;
-
-/// The length of an Ethernet header, in bytes.
-const SHORTEST: usize = 14;
-
-/// The bytes that a frame may have above the MTU: an Ethernet header and a VLAN tag.
-const ABOVE_MTU: u64 = 18;
 
 /// The verdict on captured frame `frame` of guest `guest`, both counted from 0. It goes over all earlier frames.
 pub fn verdict(plan: &Plan, guest: u32, frame: u32) -> Sending
     requires guest { guest < length plan.now.guests }
     requires frame { (g : GuestValue) → slice_get plan.now.guests guest ≡ Some g → frame < length g.capture.records }
     ensures verdict { (g : GuestValue) (r : StampedValue) → slice_get plan.now.guests guest ≡ Some g → slice_get g.capture.records frame ≡ Some r
-        → result ≡ verdict_on g (captured_as frame r) }
+        → result ≡ verdict_on g (captured_as g frame r) }
 {
     verdict_in(&plan.guests.as_slice()[guest as usize], frame)
 }
 
+/// The bytes of a frame as it goes over the wire, with the tag that it is given.
+#[tactic(auto, using(crate::specs::Wire::wire_length))]
+fn wire_len(plan: &GuestPlan, frame: &[u8]) -> u64
+    requires header { HEADER_LEN ≤ length frame.now }
+    ensures length { result ≡ length (wire_form (posted_form plan.now frame.now)) }
+{
+    if gets_tag(plan, frame) {
+        (frame.len() + TAG_LEN) as u64
+    } else {
+        frame.len() as u64
+    }
+}
+
+/// Whether a frame is given a tag.
+fn gets_tag(plan: &GuestPlan, frame: &[u8]) -> bool
+    requires header { HEADER_LEN ≤ length frame.now }
+    ensures gets { result ≡ (is_some plan.now.vlan && not (is_tagged_of frame.now)) }
+{
+    plan.vlan.is_some() && !is_tagged(frame)
+}
+
 fn verdict_in(plan: &GuestPlan, frame: u32) -> Sending
-    requires { frame < length plan.now.capture.records }
+    requires there { frame < length plan.now.capture.records }
     ensures verdict { (r : StampedValue) → slice_get plan.now.capture.records frame ≡ Some r
-        → result ≡ verdict_on plan.now (captured_as frame r) }
+        → result ≡ verdict_on plan.now (captured_as plan.now frame r) }
 {
     if is_down(plan, frame) {
         return Sending::Down;
@@ -41,10 +60,10 @@ fn verdict_in(plan: &GuestPlan, frame: u32) -> Sending
     let bytes = plan.capture.records.as_slice()[frame as usize]
         .frame
         .as_slice();
-    if bytes.len() < SHORTEST {
+    if bytes.len() < HEADER_LEN {
         return Sending::Short;
     }
-    if bytes.len() as u64 > u64::from(plan.setup.mtu) + ABOVE_MTU {
+    if wire_len(plan, bytes) > u64::from(plan.setup.mtu) + ABOVE_MTU as u64 {
         return Sending::TooLong;
     }
     let activation = activation_at(plan, frame);
@@ -112,7 +131,7 @@ fn begins(deed: &Deed) -> bool
 #[tactic(auto, using(crate::specs::PlanSteps::place_step, crate::specs::PlanSteps::place_low))]
 /// How many frames before this number are sent on this queue of this activation.
 fn place_of(plan: &GuestPlan, activation: u32, queue: u32, frame: u32) -> u64
-    requires { frame < length plan.now.capture.records }
+    requires there { frame < length plan.now.capture.records }
     ensures place { result ≡ place_by plan.now activation queue frame }
 {
     let mut place = 0;
@@ -125,15 +144,15 @@ fn place_of(plan: &GuestPlan, activation: u32, queue: u32, frame: u32) -> u64
 }
 
 fn goes_on(plan: &GuestPlan, activation: u32, queue: u32, number: u32) -> bool
-    requires { number < length plan.now.capture.records }
+    requires there { number < length plan.now.capture.records }
     ensures goes { result ≡ goes_at plan.now activation queue number }
 {
     let bytes = plan.capture.records.as_slice()[number as usize]
         .frame
         .as_slice();
     !is_down(plan, number)
-        && SHORTEST <= bytes.len()
-        && bytes.len() as u64 <= u64::from(plan.setup.mtu) + ABOVE_MTU
+        && HEADER_LEN <= bytes.len()
+        && wire_len(plan, bytes) <= u64::from(plan.setup.mtu) + ABOVE_MTU as u64
         && activation_at(plan, number) == activation
         && tx_queue(&flow(bytes), u32::from(plan.setup.tx_queues)) == queue
 }

@@ -17,4 +17,4 @@ invariant_of-result c =
     }
 
 pub returns : goal.returns
-returns c = λ i. get_or-replicate_same {A = ℕ} 128 i 0
+returns c = record { zeros = λ i. get_or-replicate_same {A = ℕ} 128 i 0 }

@@ -42,7 +42,7 @@ tests prefix poll guests h =
 
 pub invariant_of-result : goal.invariant_of-result
 invariant_of-result c =
-    let kept : Tests c.args.prefix c.args.poll_every c.args.guests = tests c.args.prefix c.args.poll_every c.args.guests (ap (plan_fits c.args.prefix c.args.poll_every) (sym c.as_slice.ensures.items) ∙ sym c.fits_plan.ensures ∙ c.if-fits_plan.true) in
+    let kept : Tests c.args.prefix c.args.poll_every c.args.guests = tests c.args.prefix c.args.poll_every c.args.guests (ap (plan_fits c.args.prefix c.args.poll_every) (sym c.as_slice.ensures.items) ∙ sym c.fits_plan.ensures.fits ∙ c.if-fits_plan.true) in
     record {
       prefix_fits = kept.prefix;
       poll_low = kept.low;
