@@ -1,0 +1,2 @@
+pub mod RightRecord
+pub mod WrongRecords
