@@ -1,6 +1,0 @@
-use Rattle.std.proofs.Common.{◌∙◌, sym}
-use Rattle.vmx_model.specs.SetupLaws.{admits_agrees}
-use Rattle.vmx_serial_plain.proofs.setups.admitted.Goals as goal
-
-pub returns : goal.returns
-returns c = record { verdict = c.admits.ensures.verdict ∙ sym (admits_agrees c.args.setup.now c.args.mac.now c.args.frame.now) }

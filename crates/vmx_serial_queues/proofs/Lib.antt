@@ -1,0 +1,4 @@
+pub mod Walks
+pub mod Sums
+pub mod Places
+pub mod Made

@@ -1,0 +1,4 @@
+use Rattle.vmx_serial_queues.proofs.walk.+head_from.Given as goal
+
+abbrev pub decreases-head_from : goal.decreases-head_from
+decreases-head_from l = l.fuel

@@ -1,0 +1,5 @@
+pub mod Walks
+pub mod Queues
+pub mod Forms
+pub mod Small
+pub mod Fits

@@ -1,0 +1,4 @@
+pub mod Small
+pub mod Seats
+pub mod Worlds
+pub mod Fates

@@ -1,0 +1,13 @@
+//! The serial run of a plan as a plain, slow program over lists: no ring, no register, no note and no link that fills up. Each
+//! function does what one definition of the model says. No program stands on it: what other programs do is compared with it.
+#![tactic(auto)]
+
+mod copies;
+mod run;
+mod seat;
+mod world;
+
+pub use copies::fates;
+pub use run::serial_run;
+pub use seat::Seat;
+pub use world::{Carried, Wire, World};

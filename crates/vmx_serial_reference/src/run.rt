@@ -1,0 +1,146 @@
+//! The serial run of a plan: number by number, guest by guest.
+ghost use Rattle.std.specs.Prelude.{◌≡◌, ◌≤◌, ◌<◌, ◌+◌, ◌++◌, [], ◌∷◌, nat_eq, if◌then◌else◌, length, map, max, OnOk, IfOk};
+ghost use Rattle.vmx_model.specs.Totals.{records_of};
+ghost use Rattle.vmx_model.specs.Serial.{turns, last_at as last_at_of, last_number as last_number_of, seats_from, start, wires_from, closed, serial_run as serial_run_of};
+ghost use Rattle.vmx_serial_reference.specs.Seats.{seat_of};
+ghost use Rattle.vmx_serial_reference.specs.Small.{AreEarly};
+ghost use Rattle.vmx_serial_reference.specs.Worlds.{wire_of, world_of, IsOnTheWay, MOST_OF_ROUND, empty_wire};
+
+use crate::seat::Seat;
+use crate::world::{Wire, World};
+use std::alloc::{AllocError, Global};
+use vmx_io::List;
+use vmx_model::{Action, GuestPlan, Plan};
+use vmx_switch::MAX_PORTS;
+
+/// The serial run of a plan. It takes time that grows with the square of the plan, and worse: plans for it are small.
+#[tactic(auto, unfolding(vmx_model::specs::Serial::serial_run))]
+pub fn serial_run(alloc: Global, plan: &Plan) -> Result<World, AllocError>
+    ensures run { IfOk result (λ w. world_of w ≡ serial_run_of plan.now) }
+{
+    let mut world = begin(alloc, plan)?;
+    let last = last_number(plan.guests.as_slice());
+    for number in 0..last {
+        round(alloc, plan, number, &mut world)?;
+    }
+    close_all(alloc, &mut world.seats)?;
+    Ok(world)
+}
+
+/// A number: the turn of each guest in port order.
+fn round(alloc: Global, plan: &Plan, number: u32, world: &mut World) -> Result<(), AllocError>
+    requires way { IsOnTheWay plan.now MOST_OF_ROUND (world_of world.old) }
+    ensures turns { OnOk result (world_of world.new ≡ turns plan.now number (length plan.now.guests) (world_of world.old)) }
+{
+    let guests = plan.guests.len() as u32;
+    for port in 0..guests {
+        world.turn(alloc, plan, number, port)?;
+    }
+    Ok(())
+}
+
+/// The world before the first number.
+fn begin(alloc: Global, plan: &Plan) -> Result<World, AllocError>
+    ensures start { IfOk result (λ w. world_of w ≡ start plan.now) }
+{
+    let seats = first_seats(alloc, plan.guests.as_slice())?;
+    let guests = plan.guests.len() as u32;
+    let mut wires = List::new(alloc);
+    for from in 0..guests {
+        wire_to_others(alloc, guests, from, &mut wires)?;
+    }
+    Ok(World { seats, wires })
+}
+
+/// Every guest, activated.
+fn first_seats(alloc: Global, guests: &[GuestPlan]) -> Result<List<Seat>, AllocError>
+    requires few { length guests.now ≤ MAX_PORTS }
+    ensures seats { IfOk result (λ ss. map seat_of ss ≡ seats_from 0 guests.now) }
+{
+    let mut seats = List::new(alloc);
+    for (port, guest) in guests.iter().enumerate() {
+        let mut seat = Seat::fresh(alloc, guest);
+        seat.activate(alloc, port as u32, guest)?;
+        seats.push(seat)?;
+    }
+    Ok(seats)
+}
+
+/// Makes the links from a port to all others.
+fn wire_to_others(
+    alloc: Global,
+    guests: u32,
+    from: u32,
+    wires: &mut List<Wire>,
+) -> Result<(), AllocError>
+    ensures wires { OnOk result (map wire_of wires.new ≡ map wire_of wires.old ++ wires_from guests from) }
+{
+    for to in 0..guests {
+        wire_if_other(alloc, from, to, wires)?;
+    }
+    Ok(())
+}
+
+/// Makes the link from a port to another.
+fn wire_if_other(
+    alloc: Global,
+    from: u32,
+    to: u32,
+    wires: &mut List<Wire>,
+) -> Result<(), AllocError>
+    ensures wire { OnOk result (map wire_of wires.new ≡ (if nat_eq from to then map wire_of wires.old else map wire_of wires.old ++ empty_wire from to ∷ [])) }
+{
+    if from != to {
+        wires.push(Wire {
+            from,
+            to,
+            pushed: List::new(alloc),
+            pulled: List::new(alloc),
+        })?;
+    }
+    Ok(())
+}
+
+/// Every driver polls, and active guests are quiesced.
+fn close_all(alloc: Global, seats: &mut List<Seat>) -> Result<(), AllocError>
+    ensures closed { OnOk result (map seat_of seats.new ≡ map closed (map seat_of seats.old)) }
+{
+    for i in 0..seats.len() {
+        seats.at_mut(i).close(alloc)?;
+    }
+    Ok(())
+}
+
+/// The longest capture's number of frames, or the greatest action's number and 1.
+fn last_number(guests: &[GuestPlan]) -> u32
+    requires records { records_of guests.now ≤ 262144 }
+    ensures last { result ≡ last_number_of guests.now }
+    ensures few { result ≤ 262145 }
+{
+    let mut last = 0;
+    for guest in guests {
+        let records = guest.capture.records.len() as u32;
+        last = greater(last, greater(records, last_at(guest.script.as_slice())));
+    }
+    last
+}
+
+/// The greatest number of an action, and 1.
+fn last_at(script: &[Action]) -> u32
+    requires early { AreEarly script.now }
+    ensures last { result ≡ last_at_of script.now }
+    ensures few { result ≤ 262145 }
+{
+    let mut last = 0;
+    for action in script {
+        last = greater(last, action.at + 1);
+    }
+    last
+}
+
+/// The greater of two numbers.
+fn greater(a: u32, b: u32) -> u32
+    ensures greater { result ≡ max a b }
+{
+    if a < b { b } else { a }
+}
