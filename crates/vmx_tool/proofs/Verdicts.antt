@@ -1,22 +1,28 @@
 -- The verdicts of a guest with one transmit queue and no script go by the lengths of its frames.
-use Rattle.std.proofs.Common.{◌≡◌, ℕ, suc, ◌+◌, ◌%◌, Bool, true, false, List, [], ◌∷◌, length, map, Some, nat_le, nat_lt, refl, sym, ap, ◌∙◌, arith}
+use Rattle.std.proofs.Common.{◌≡◌, ℕ, suc, ◌+◌, ◌%◌, Bool, true, false, List, [], ◌∷◌, length, map, Option, Some, None, nat_le, nat_lt, refl, sym, ap, ◌∙◌, arith}
 use Rattle.std.specs.Prelude.{slice_get, filter, count_by, if◌then◌else◌, ◌&&◌, not}
 use Rattle.std.proofs.lemmas.List.Sums.{length-filter}
 use Rattle.std.proofs.lemmas.Bool.Decides.{nat_tests}
 use Rattle.vmx_pcap.specs.declared.records.Stamped.{Stamped}
+use Rattle.vmx_ends.specs.Marks.{mark_with}
 use Rattle.vmx_model.specs.declared.guest.GuestPlan.{GuestPlan}
 use Rattle.vmx_model.specs.declared.sending.Sending.{Sending}
 use Rattle.vmx_model.specs.declared.journal.Fate.{Fate}
 use Rattle.vmx_model.specs.declared.sending.Sending.TheVariants as sending
 use Rattle.vmx_model.specs.Lists.{count}
 use Rattle.vmx_model.specs.Deeds.{begins, is_quiet}
-use Rattle.vmx_model.specs.Wire.{tx_queue}
-use Rattle.vmx_model.specs.Plan.{Captured, past, is_down, activation_at, captured_as, numbered, goes_on, frames_of, place_of, verdict_on}
+use Rattle.vmx_model.specs.Wire.{takes_tag, wire_form, tx_queue}
+use Rattle.vmx_model.specs.Plan.{Captured, wire, past, is_down, activation_at, captured_as, numbered, goes_on, frames_of, place_of, verdict_on}
 use Rattle.vmx_model.specs.PlanSteps.{place_next}
-use Rattle.vmx_tool.specs.Plan.{IsPlain}
+use Rattle.vmx_pcap.specs.declared.records.Capture.{Capture}
+use Rattle.vmx_tool.specs.Plan.{IsPlain, IsSender}
 use Rattle.vmx_tool.specs.Lengths.{is_sent, is_short, is_too_long, sending_of}
 use Rattle.vmx_tool.specs.Fates.{fate_by, fates_due, sent_from, sent_records}
 use Rattle.vmx_tool.specs.Summary.{says_sent, says_short, says_too_long, count_verdicts, lines_of, summary}
+
+-- guest `a` is plain
+pub sender_plain : (capture : Capture) (g : GuestPlan) → IsSender capture g → IsPlain g
+sender_plain capture g s = record { tx_queues = s.setup.tx_queues; vlan = s.vlan; script = s.script }
 
 never_down : (g : GuestPlan) → IsPlain g → (i : ℕ) → is_down g i ≡ false
 never_down g p i = ap (λ s. is_quiet false (past i s)) p.script
@@ -36,11 +42,19 @@ always_there true true = refl
 always_there true false = refl
 always_there false b = refl
 
-pub goes_by_length : (g : GuestPlan) → IsPlain g → (i : ℕ) (r : Stamped) → goes_on g 0 0 (captured_as i r) ≡ is_sent g.setup.mtu r
-goes_by_length g p i r = rw (never_down g p i, one_activation g p i, one_queue g p r.frame) (always_there _ _)
+bare_mark : (b : Bool) (frame : List ℕ) → wire_form (record { frame = frame; mark = mark_with (if b then None else None) }) ≡ frame
+bare_mark true frame = refl
+bare_mark false frame = refl
 
-pub verdict_by_length : (g : GuestPlan) → IsPlain g → (i : ℕ) (r : Stamped) → verdict_on g (captured_as i r) ≡ sending_of g.setup.mtu (place_of g 0 0 i) (length r.frame)
-verdict_by_length g p i r = rw (never_down g p i, one_activation g p i, one_queue g p r.frame) refl
+-- without a VLAN a frame goes over the wire as it was captured
+same_wire : (g : GuestPlan) → IsPlain g → (i : ℕ) (r : Stamped) → wire (captured_as g i r) ≡ r.frame
+same_wire g p i r = ap (λ (v : Option ℕ). wire_form (record { frame = r.frame; mark = mark_with (if takes_tag r.frame then v else None) })) p.vlan ∙ bare_mark (takes_tag r.frame) r.frame
+
+pub goes_by_length : (g : GuestPlan) → IsPlain g → (i : ℕ) (r : Stamped) → goes_on g 0 0 (captured_as g i r) ≡ is_sent g.setup.mtu r
+goes_by_length g p i r = rw (never_down g p i, one_activation g p i, one_queue g p r.frame, same_wire g p i r) (always_there _ _)
+
+pub verdict_by_length : (g : GuestPlan) → IsPlain g → (i : ℕ) (r : Stamped) → verdict_on g (captured_as g i r) ≡ sending_of g.setup.mtu (place_of g 0 0 i) (length r.frame)
+verdict_by_length g p i r = rw (never_down g p i, one_activation g p i, one_queue g p r.frame, same_wire g p i r) refl
 
 -- the number of sent frames, one more where this one is sent
 abbrev pub place_after : ℕ → ℕ → Stamped → ℕ
@@ -61,15 +75,15 @@ all_from g j r is = let e : 0 + j ≡ j = omega arith in rw e is
 next_from : (g : GuestPlan) (i : ℕ) (r : Stamped) (rs : List Stamped) → AreFrom g i (r ∷ rs) → AreFrom g (i + 1) rs
 next_from g i r rs are j x is = let e : i + 1 + j ≡ i + suc j = omega arith in rw e (are (suc j) x is)
 
-fates_on : (g : GuestPlan) → IsPlain g → (i : ℕ) (rs : List Stamped) → AreFrom g i rs → map (λ c. fate_by (verdict_on g c)) (numbered i rs) ≡ fates_from g.setup.mtu (place_of g 0 0 i) rs
+fates_on : (g : GuestPlan) → IsPlain g → (i : ℕ) (rs : List Stamped) → AreFrom g i rs → map (λ c. fate_by (verdict_on g c)) (numbered g i rs) ≡ fates_from g.setup.mtu (place_of g 0 0 i) rs
 fates_on g p i [] are = refl
 fates_on g p i (r ∷ rs) are =
     let start : i + 0 ≡ i = omega arith in
     let here : slice_get g.capture.records i ≡ Some r = rw start at (are 0 r refl) in
     let place : place_of g 0 0 (i + 1) ≡ place_after g.setup.mtu (place_of g 0 0 i) r = place_next g 0 0 i r here ∙ ap (λ b. place_of g 0 0 i + (if b then 1 else 0)) (goes_by_length g p i r) in
-    let rest : map (λ c. fate_by (verdict_on g c)) (numbered (i + 1) rs) ≡ fates_from g.setup.mtu (place_after g.setup.mtu (place_of g 0 0 i) r) rs =
+    let rest : map (λ c. fate_by (verdict_on g c)) (numbered g (i + 1) rs) ≡ fates_from g.setup.mtu (place_after g.setup.mtu (place_of g 0 0 i) r) rs =
     fates_on g p (i + 1) rs (next_from g i r rs are) ∙ ap (λ n. fates_from g.setup.mtu n rs) place in
-    ap (λ v. fate_by v ∷ map (λ c. fate_by (verdict_on g c)) (numbered (i + 1) rs)) (verdict_by_length g p i r)
+    ap (λ v. fate_by v ∷ map (λ c. fate_by (verdict_on g c)) (numbered g (i + 1) rs)) (verdict_by_length g p i r)
     ∙ ap (λ (fs : List Fate). fate_by (sending_of g.setup.mtu (place_of g 0 0 i) (length r.frame)) ∷ fs) rest
 
 -- the fates of all captured frames
@@ -89,17 +103,17 @@ sent_on g p i (r ∷ rs) =
 pub sent_by_length : (g : GuestPlan) → IsPlain g → filter (is_sent g.setup.mtu) g.capture.records ≡ sent_records g
 sent_by_length g p = sent_on g p 0 g.capture.records
 
-frames_alike : (b : Bool) (i : ℕ) (r : Stamped) (rs : List Stamped) (cs : List Captured) → map (λ r. r.frame) rs ≡ map (λ c. c.frame) cs → map (λ r. r.frame) (if b then r ∷ rs else rs) ≡ map (λ c. c.frame) (if b then captured_as i r ∷ cs else cs)
-frames_alike true i r rs cs e = ap (λ (fs : List (List ℕ)). r.frame ∷ fs) e
-frames_alike false i r rs cs e = e
+frames_alike : (g : GuestPlan) → IsPlain g → (b : Bool) (i : ℕ) (r : Stamped) (rs : List Stamped) (cs : List Captured) → map (λ r. r.frame) rs ≡ map wire cs → map (λ r. r.frame) (if b then r ∷ rs else rs) ≡ map wire (if b then captured_as g i r ∷ cs else cs)
+frames_alike g p true i r rs cs e = ap (λ (fs : List (List ℕ)). r.frame ∷ fs) e ∙ ap (λ (f : List ℕ). f ∷ map wire cs) (sym (same_wire g p i r))
+frames_alike g p false i r rs cs e = e
 
-frames_from : (g : GuestPlan) (i : ℕ) (rs : List Stamped) → map (λ r. r.frame) (sent_from g i rs) ≡ map (λ c. c.frame) (filter (goes_on g 0 0) (numbered i rs))
-frames_from g i [] = refl
-frames_from g i (r ∷ rs) = frames_alike (goes_on g 0 0 (captured_as i r)) i r _ _ (frames_from g (i + 1) rs)
+frames_from : (g : GuestPlan) → IsPlain g → (i : ℕ) (rs : List Stamped) → map (λ r. r.frame) (sent_from g i rs) ≡ map wire (filter (goes_on g 0 0) (numbered g i rs))
+frames_from g p i [] = refl
+frames_from g p i (r ∷ rs) = frames_alike g p (goes_on g 0 0 (captured_as g i r)) i r _ _ (frames_from g p (i + 1) rs)
 
 -- the sent frames are those of the sent records
-pub frames_sent : (g : GuestPlan) → map (λ r. r.frame) (sent_records g) ≡ frames_of g 0 0
-frames_sent g = frames_from g 0 g.capture.records
+pub frames_sent : (g : GuestPlan) → IsPlain g → map (λ r. r.frame) (sent_records g) ≡ frames_of g 0 0
+frames_sent g p = frames_from g p 0 g.capture.records
 
 -- verdicts by lengths, told apart
 abbrev by_tests : Bool → Bool → ℕ → Sending
@@ -132,30 +146,30 @@ long_alone mtu len false is = last_false (not (nat_lt len 14))
     last_false true = refl
     last_false false = refl
 
-lengths_alike : (f : Captured → Bool) (t : Stamped → Bool) → ((i : ℕ) (r : Stamped) → f (captured_as i r) ≡ t r) → (i : ℕ) (rs : List Stamped) → length (filter f (numbered i rs)) ≡ length (filter t rs)
-lengths_alike f t alike i [] = refl
-lengths_alike f t alike i (r ∷ rs) = rw (alike i r) (step (t r) (lengths_alike f t alike (i + 1) rs))
+lengths_alike : (g : GuestPlan) (f : Captured → Bool) (t : Stamped → Bool) → ((i : ℕ) (r : Stamped) → f (captured_as g i r) ≡ t r) → (i : ℕ) (rs : List Stamped) → length (filter f (numbered g i rs)) ≡ length (filter t rs)
+lengths_alike g f t alike i [] = refl
+lengths_alike g f t alike i (r ∷ rs) = rw (alike i r) (step (t r) (lengths_alike g f t alike (i + 1) rs))
   where
-    step : (b : Bool) → length (filter f (numbered (i + 1) rs)) ≡ length (filter t rs) → length (if b then captured_as i r ∷ filter f (numbered (i + 1) rs) else filter f (numbered (i + 1) rs)) ≡ length (if b then r ∷ filter t rs else filter t rs)
+    step : (b : Bool) → length (filter f (numbered g (i + 1) rs)) ≡ length (filter t rs) → length (if b then captured_as g i r ∷ filter f (numbered g (i + 1) rs) else filter f (numbered g (i + 1) rs)) ≡ length (if b then r ∷ filter t rs else filter t rs)
     step true e = omega (arith, e)
     step false e = e
 
 -- captured frames are counted as their records are
-counted : (f : Captured → Bool) (t : Stamped → Bool) → ((i : ℕ) (r : Stamped) → f (captured_as i r) ≡ t r) → (rs : List Stamped) → count f (numbered 0 rs) ≡ count_by t rs
-counted f t alike rs = lengths_alike f t alike 0 rs ∙ length-filter t rs
+counted : (g : GuestPlan) (f : Captured → Bool) (t : Stamped → Bool) → ((i : ℕ) (r : Stamped) → f (captured_as g i r) ≡ t r) → (rs : List Stamped) → count f (numbered g 0 rs) ≡ count_by t rs
+counted g f t alike rs = lengths_alike g f t alike 0 rs ∙ length-filter t rs
 
 pub sent_count : (g : GuestPlan) → IsPlain g → count_verdicts says_sent g ≡ count_by (is_sent g.setup.mtu) g.capture.records
 sent_count g p =
-    counted _ _ (λ i r. ap says_sent (verdict_by_length g p i r) ∙ sent_said (place_of g 0 0 i) (nat_lt (length r.frame) 14) (nat_lt (g.setup.mtu + 18) (length r.frame))
+    counted g _ _ (λ i r. ap says_sent (verdict_by_length g p i r) ∙ sent_said (place_of g 0 0 i) (nat_lt (length r.frame) 14) (nat_lt (g.setup.mtu + 18) (length r.frame))
     ∙ ap (λ b. b && not (nat_lt (g.setup.mtu + 18) (length r.frame))) (not_lt (length r.frame) 14) ∙ ap (λ b. nat_le 14 (length r.frame) && b) (not_lt (g.setup.mtu + 18) (length r.frame))) g.capture.records
 
 pub short_count : (g : GuestPlan) → IsPlain g → count_verdicts says_short g ≡ count_by is_short g.capture.records
 short_count g p =
-    counted _ _ (λ i r. ap says_short (verdict_by_length g p i r) ∙ short_said (place_of g 0 0 i) (nat_lt (length r.frame) 14) (nat_lt (g.setup.mtu + 18) (length r.frame))) g.capture.records
+    counted g _ _ (λ i r. ap says_short (verdict_by_length g p i r) ∙ short_said (place_of g 0 0 i) (nat_lt (length r.frame) 14) (nat_lt (g.setup.mtu + 18) (length r.frame))) g.capture.records
 
 pub too_long_count : (g : GuestPlan) → IsPlain g → count_verdicts says_too_long g ≡ count_by (is_too_long g.setup.mtu) g.capture.records
 too_long_count g p =
-    counted _ _ (λ i r. ap says_too_long (verdict_by_length g p i r) ∙ long_said (place_of g 0 0 i) (nat_lt (length r.frame) 14) (nat_lt (g.setup.mtu + 18) (length r.frame))
+    counted g _ _ (λ i r. ap says_too_long (verdict_by_length g p i r) ∙ long_said (place_of g 0 0 i) (nat_lt (length r.frame) 14) (nat_lt (g.setup.mtu + 18) (length r.frame))
     ∙ long_alone g.setup.mtu (length r.frame) (nat_lt (g.setup.mtu + 18) (length r.frame)) refl) g.capture.records
 
 -- the summary by the lengths alone

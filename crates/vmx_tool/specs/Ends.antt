@@ -7,6 +7,7 @@ use Rattle.vmx_pcap.specs.declared.fault.CaptureFault.TheVariants as fault
 use Rattle.vmx_pcap.specs.Capture.{IsCapture}
 use Rattle.vmx_pcap.specs.Faults.{HasFault}
 use Rattle.vmx_pcap.specs.Written.{capture_bytes}
+use Rattle.vmx_model.specs.declared.limits.TheConstants.{MAX_RECORDS, MAX_BYTES}
 use Rattle.vmx_model.specs.declared.plan.Plan.{Plan}
 use Rattle.vmx_tool.specs.declared.load.ReadCapture.{ReadCapture}
 use Rattle.vmx_tool.specs.declared.load.Stop.{Stop}
@@ -44,15 +45,15 @@ world files reads writes text prints shelf console =
 
 -- a file's bytes are not too long for a capture, and are one with these records and a tail of that many bytes
 pub record HoldsCapture (bytes : List ℕ) (records : List Stamped) (tail : ℕ) : Type 0 where
-  pub within : length bytes ≤ 67108864
+  pub within : length bytes ≤ MAX_BYTES
   pub capture : IsCapture bytes records tail
 
 -- what was loaded under a name, where the files are told
 abbrev pub Loaded : Result ReadCapture Stop → List ℕ → Option Files → Type 0
-Loaded (Ok read) from files = (length read.capture.records ≤ 262144) × WhereTold files (λ f. HoldsCapture (content f from) read.capture.records read.capture.tail)
-Loaded (Err stop.TooLong) from files = WhereTold files (λ f. 67108864 < length (content f from))
-Loaded (Err (stop.Header len)) from files = WhereTold files (λ f. HasFault (fault.Header len) (content f from) 262144)
-Loaded (Err stop.Form) from files = WhereTold files (λ f. (length (content f from) ≤ 67108864) × HasFault fault.Form (content f from) 262144)
+Loaded (Ok read) from files = (length read.capture.records ≤ MAX_RECORDS) × WhereTold files (λ f. HoldsCapture (content f from) read.capture.records read.capture.tail)
+Loaded (Err stop.TooLong) from files = WhereTold files (λ f. MAX_BYTES < length (content f from))
+Loaded (Err (stop.Header len)) from files = WhereTold files (λ f. HasFault (fault.Header len) (content f from) MAX_RECORDS)
+Loaded (Err stop.Form) from files = WhereTold files (λ f. (length (content f from) ≤ MAX_BYTES) × HasFault fault.Form (content f from) MAX_RECORDS)
 Loaded (Err stop.Failed) from files = Unit {0}
 Loaded (Err stop.NoMemory) from files = Unit {0}
 
@@ -115,7 +116,7 @@ pub record Replays (words : List (List ℕ)) (files : Option Files) (account : O
   pub told : Record
   pub words_are : pair_of words ≡ Some (from, to)
   pub captured : WhereTold files (λ f. HoldsCapture (content f from) capture.records capture.tail)
-  pub few : length capture.records ≤ 262144
+  pub few : length capture.records ≤ MAX_RECORDS
   pub planned : IsPairPlan capture plan
   pub accounts : Accounts planned.a told
   pub account_is : account ≡ Some told

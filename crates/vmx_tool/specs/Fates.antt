@@ -1,5 +1,5 @@
 -- What a replay in which each sent frame comes up at guest `b` tells of the frames of guest `a`.
-use Rattle.std.specs.Prelude.{◌≡◌, ℕ, ◌+◌, List, [], ◌∷◌, map, if◌then◌else◌}
+use Rattle.std.specs.Prelude.{◌≡◌, ℕ, ◌+◌, List, [], ◌∷◌, map, if◌then◌else◌, None}
 use Rattle.vmx_pcap.specs.declared.records.Stamped.{Stamped}
 use Rattle.vmx_model.specs.declared.guest.GuestPlan.{GuestPlan}
 use Rattle.vmx_model.specs.declared.sending.Sending.{Sending}
@@ -24,12 +24,12 @@ fates_due g = map (λ c. fate_by (verdict_on g c)) (captured g)
 -- frames that were handed up in order, with their places from k on
 abbrev pub handed_up : ℕ → List (List ℕ) → List Received
 handed_up k [] = []
-handed_up k (frame ∷ frames) = record { activation = 0; queue = 0; place = k; frame = frame } ∷ handed_up (k + 1) frames
+handed_up k (frame ∷ frames) = record { activation = 0; queue = 0; place = k; frame = frame; tci = None } ∷ handed_up (k + 1) frames
 
 -- those of a guest's records, from number i on, whose frames are sent on queue 0 of activation 0
 abbrev pub sent_from : GuestPlan → ℕ → List Stamped → List Stamped
 sent_from g i [] = []
-sent_from g i (r ∷ rs) = if goes_on g 0 0 (captured_as i r) then r ∷ sent_from g (i + 1) rs else sent_from g (i + 1) rs
+sent_from g i (r ∷ rs) = if goes_on g 0 0 (captured_as g i r) then r ∷ sent_from g (i + 1) rs else sent_from g (i + 1) rs
 
 -- the records of a guest's sent frames
 abbrev pub sent_records : GuestPlan → List Stamped

@@ -3,6 +3,7 @@ use Rattle.std.specs.Prelude.{ℕ}
 use Rattle.vmx_tool.specs.declared.status.Status.{Status}
 use Rattle.vmx_tool.specs.declared.status.Status.TheVariants as status
 
+-- the number of a status; 1 and 3 stand for none
 abbrev pub number_of : Status → ℕ
 number_of status.Ok = 0
 number_of status.Usage = 2

@@ -7,18 +7,21 @@ use Rattle.vmx_model.specs.declared.sending.Sending.TheVariants as sending
 use Rattle.vmx_model.specs.Lists.{count}
 use Rattle.vmx_model.specs.Plan.{captured, verdict_on}
 
+-- a verdict by which the frame is sent
 abbrev pub says_sent : Sending → Bool
 says_sent (sending.Sent activation queue place) = true
 says_sent sending.Down = false
 says_sent sending.Short = false
 says_sent sending.TooLong = false
 
+-- a verdict that the frame is short
 abbrev pub says_short : Sending → Bool
 says_short (sending.Sent activation queue place) = false
 says_short sending.Down = false
 says_short sending.Short = true
 says_short sending.TooLong = false
 
+-- a verdict that the frame is too long
 abbrev pub says_too_long : Sending → Bool
 says_too_long (sending.Sent activation queue place) = false
 says_too_long sending.Down = false
@@ -29,6 +32,7 @@ says_too_long sending.TooLong = true
 abbrev pub count_verdicts : (Sending → Bool) → GuestPlan → ℕ
 count_verdicts says g = count (λ c. says (verdict_on g c)) (captured g)
 
+-- the line of what was captured; each captured frame has one copy
 unfoldable pub first_line : ℕ → ℕ → List ℕ
 first_line captured tail =
     codes "guests 2 captured " ++ (decimal captured ++ (codes " copies " ++ (decimal captured ++ (codes " tail " ++ (decimal tail ++ codes "\n")))))
@@ -37,6 +41,7 @@ first_line captured tail =
 unfoldable pub no_counts : List ℕ
 no_counts = codes " link-full 0 inactive 0 filtered 0 no-buffer 0 discarded 0 no-port 0 down 0 short "
 
+-- the line of what became of the copies
 unfoldable pub second_line : ℕ → ℕ → ℕ → List ℕ
 second_line up short long = codes "up " ++ (decimal up ++ (no_counts ++ (decimal short ++ (codes " too-long " ++ (decimal long ++ codes "\n")))))
 

@@ -7,6 +7,7 @@ ghost use Rattle.vmx_tool.specs.Ends.{Loaded, LoadedCounts};
 
 use std::alloc::Global;
 use vmx_io::{Bytes, Load, Shelf};
+use vmx_model::{MAX_BYTES, MAX_RECORDS};
 use vmx_pcap::{Capture, CaptureFault};
 
 /// A capture, and the memory that held its file.
@@ -31,12 +32,6 @@ pub enum Stop {
     NoMemory,
 }
 
-/// The greatest length of a capture's file, in bytes.
-const LIMIT: u64 = 67_108_864;
-
-/// The greatest number of a capture's records.
-const MOST: u32 = 262_144;
-
 /// Loads a file and reads the capture that it holds.
 #[tactic(auto, using(crate::proofs::Sizes::within_bytes))]
 pub fn load_capture<S: Shelf>(alloc: Global, from: &str, shelf: &mut S) -> Result<ReadCapture, Stop>
@@ -46,13 +41,13 @@ pub fn load_capture<S: Shelf>(alloc: Global, from: &str, shelf: &mut S) -> Resul
     ensures files { S.files shelf.new ≡ S.files shelf.old }
     ensures writes { S.write_faults shelf.new ≡ S.write_faults shelf.old }
 {
-    let bytes = match shelf.load(alloc, from, LIMIT) {
+    let bytes = match shelf.load(alloc, from, MAX_BYTES as u64) {
         Load::Bytes { bytes } => bytes,
         Load::Failed => return Err(Stop::Failed),
         Load::TooLong => return Err(Stop::TooLong),
         Load::NoMemory => return Err(Stop::NoMemory),
     };
-    match vmx_pcap::read(alloc, bytes.as_slice(), MOST) {
+    match vmx_pcap::read(alloc, bytes.as_slice(), MAX_RECORDS as u32) {
         Ok(capture) => Ok(ReadCapture {
             capture,
             room: bytes,

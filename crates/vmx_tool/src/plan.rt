@@ -1,5 +1,5 @@
 //! The fixed plan of `pair`: guest `a` sends the capture, and guest `b` is a sniffer. All else is as a configuration has it by default.
-ghost use Rattle.std.specs.Prelude.{◌≡◌, ◌<◌, ◌%◌, true, slice_index, IfOk};
+ghost use Rattle.std.specs.Prelude.{◌≡◌, ◌%◌, true, slice_index, IfOk};
 ghost use Rattle.vmx_model.specs.Ranges.{is_name};
 ghost use Rattle.vmx_tool.specs.Plan.{Fits, HasDefaults, IsGuest, IsPairPlan};
 
@@ -7,42 +7,29 @@ use std::alloc::{AllocError, Global};
 use vmx_io::{List, Text};
 use vmx_model::{GuestPlan, Plan};
 use vmx_pcap::Capture;
-use vmx_shared_area::{Filter, MacTable, Setup};
+use vmx_shared_area::offsets::MAC_SIZE;
+use vmx_shared_area::{RX_MODE_PROMISC, Setup};
 
-/// The MTU of both guests, in bytes.
-const MTU: u32 = 1500;
+/// The address of guest `a`.
+pub const MAC_A: [u8; MAC_SIZE] = [0x00, 0x50, 0x56, 0x00, 0x00, 0x01];
 
-/// The receive mode of guest `a`: UCAST 1, MCAST 2 and BCAST 4.
-const DEFAULT_MODE: u32 = 7;
+/// The address of guest `b`.
+pub const MAC_B: [u8; MAC_SIZE] = [0x00, 0x50, 0x56, 0x00, 0x00, 0x02];
 
-/// The receive mode of guest `b`.
-const PROMISC: u32 = 16;
+/// The bytes of a transmit buffer by default (own to this project).
+pub const PIECE: u32 = 4_096;
 
 /// The plan of `pair` for this capture.
 pub fn pair_plan(alloc: Global, capture: Capture) -> Result<Plan, AllocError>
-    requires { Fits capture }
-    ensures { IfOk result (λ plan. IsPairPlan capture plan) }
+    requires fits { Fits capture }
+    ensures plan { IfOk result (λ plan. IsPairPlan capture plan) }
 {
     let nothing = Capture {
         records: List::new(alloc),
         tail: 0,
     };
-    let a = guest(
-        alloc,
-        "a",
-        [0x00, 0x50, 0x56, 0x00, 0x00, 0x01],
-        false,
-        DEFAULT_MODE,
-        capture,
-    )?;
-    let b = guest(
-        alloc,
-        "b",
-        [0x00, 0x50, 0x56, 0x00, 0x00, 0x02],
-        true,
-        PROMISC,
-        nothing,
-    )?;
+    let a = guest(alloc, "a", MAC_A, false, Setup::by_default(), capture)?;
+    let b = guest(alloc, "b", MAC_B, true, promiscuous(), nothing)?;
     let mut guests = Vec::with_capacity(alloc, 2)?;
     guests.push(a)?;
     guests.push(b)?;
@@ -57,48 +44,35 @@ pub fn pair_plan(alloc: Global, capture: Capture) -> Result<Plan, AllocError>
 fn guest(
     alloc: Global,
     name: &str,
-    mac: [u8; 6],
+    mac: [u8; MAC_SIZE],
     sniffer: bool,
-    mode: u32,
+    setup: Setup,
     capture: Capture,
 ) -> Result<GuestPlan, AllocError>
     requires name { is_name name.now ≡ true }
     requires unicast { slice_index mac 0 % 2 ≡ 0 }
-    requires mode { mode < 32 }
-    ensures { IfOk result (λ guest. IsGuest name.now mac sniffer mode capture guest) }
+    requires defaults { HasDefaults setup.filter.mode setup }
+    ensures guest { IfOk result (λ guest. IsGuest name.now mac sniffer setup.filter.mode capture guest) }
 {
     Ok(GuestPlan {
         name: Text::from_str(alloc, name)?,
         mac,
         sniffer,
-        piece: 4096,
+        vlan: None,
+        piece: PIECE,
         bodies: 0,
-        setup: setup(mode),
+        setup,
         capture,
         script: List::new(alloc),
     })
 }
 
-/// The setup that a configuration has by default, but for the receive mode.
-fn setup(mode: u32) -> Setup
-    requires { mode < 32 }
-    ensures { HasDefaults mode result }
+/// The setup that a configuration has by default, but that every frame is let in.
+fn promiscuous() -> Setup
+    ensures mode { result.filter.mode ≡ RX_MODE_PROMISC }
+    ensures defaults { HasDefaults RX_MODE_PROMISC result }
 {
-    let filter = Filter {
-        mode,
-        multicast: MacTable::empty(),
-        vlans: [u32::MAX; 128],
-    };
-    Setup {
-        tx_queues: 1,
-        rx_queues: 1,
-        tx_ring: 512,
-        rx_ring1: 256,
-        rx_ring2: 256,
-        mtu: MTU,
-        filter,
-        rss: None,
-        auto_mask: true,
-        levels: [0; 25],
-    }
+    let mut setup = Setup::by_default();
+    setup.filter.mode = RX_MODE_PROMISC;
+    setup
 }

@@ -14,15 +14,10 @@ use crate::record::Record;
 use crate::summary::summary;
 use std::alloc::{AllocError, Global};
 use std::collections::VecDeque;
+use vmx_frame::HEADER_LEN;
 use vmx_io::{Bytes, List};
-use vmx_model::{Fate, GuestPlan, Plan, Received, Sending};
+use vmx_model::{ABOVE_MTU, Fate, GuestPlan, Plan, Received, Sending};
 use vmx_pcap::{Capture, Stamped};
-
-/// The length of an Ethernet header, in bytes: a shorter frame is not sent.
-const SHORTEST: usize = 14;
-
-/// The bytes that a sent frame may have above the MTU: an Ethernet header and a VLAN tag.
-const ABOVE_MTU: u64 = 18;
 
 /// The record of a replay, the capture that is saved, and the summary.
 #[derive(Drop)]
@@ -35,8 +30,8 @@ pub struct Replayed {
 /// Replays a capture by the plan of `pair`. The capture that is saved is written into the memory of `room`.
 #[tactic(auto, using(crate::proofs::Fates::all_short))]
 pub fn replay(alloc: Global, capture: Capture, room: Bytes) -> Result<Replayed, AllocError>
-    requires { Fits capture }
-    ensures { IfOk result (λ x. IsReplay capture x.record x.file (string_bytes x.summary)) }
+    requires fits { Fits capture }
+    ensures replay { IfOk result (λ x. IsReplay capture x.record x.file (string_bytes x.summary)) }
 {
     let plan = pair_plan(alloc, capture)?;
     // The sniffer has nothing to do before it is handed the frames.
@@ -88,7 +83,7 @@ fn send_one(
     place: u64,
     stamped: Stamped,
 ) -> Result<u64, AllocError>
-    requires { place + 1 < 2 ^ 64 }
+    requires room { place + 1 < 2 ^ 64 }
     ensures fate { OnOk result (fates.new.items ≡ fates.old.items ++ fate_by (sending_of mtu place (length stamped.frame)) ∷ []) }
     ensures queue { OnOk result (queue.new.items ≡ queue.old.items ++ filter (is_sent mtu) (stamped ∷ [])) }
     ensures place { IfOk result (λ n. n ≡ place + (if is_sent mtu stamped then 1 else 0)) }
@@ -124,12 +119,12 @@ fn send_one(
 
 /// The verdict on a frame of `len` bytes, at this MTU, where `earlier` frames were sent before it.
 fn verdict_of(mtu: u32, earlier: u64, len: usize) -> Sending
-    ensures { result ≡ sending_of mtu earlier len }
+    ensures verdict { result ≡ sending_of mtu earlier len }
 {
-    if len < SHORTEST {
+    if len < HEADER_LEN {
         return Sending::Short;
     }
-    if len as u64 > u64::from(mtu) + ABOVE_MTU {
+    if len as u64 > u64::from(mtu) + ABOVE_MTU as u64 {
         return Sending::TooLong;
     }
     Sending::Sent {
@@ -141,7 +136,7 @@ fn verdict_of(mtu: u32, earlier: u64, len: usize) -> Sending
 
 /// The frames that arrive at guest `b`, in the order of the queue.
 fn receive(alloc: Global, mut queue: VecDeque<Stamped>) -> Result<Vec<Stamped>, AllocError>
-    ensures { IfOk result (λ arrived. arrived.items ≡ queue.items) }
+    ensures arrived { IfOk result (λ arrived. arrived.items ≡ queue.items) }
 {
     let mut arrived = Vec::with_capacity(alloc, queue.len())?;
     while let Some(stamped) = queue.pop_front() {
@@ -152,7 +147,7 @@ fn receive(alloc: Global, mut queue: VecDeque<Stamped>) -> Result<Vec<Stamped>, 
 
 /// Hands the arrived frames up; each has as its place the number of those before it.
 fn hand_up(alloc: Global, arrived: Vec<Stamped>) -> Result<Vec<Received>, AllocError>
-    ensures { IfOk result (λ received. received.items ≡ handed_up 0 (map (λ r. r.frame) arrived.items)) }
+    ensures received { IfOk result (λ received. received.items ≡ handed_up 0 (map (λ r. r.frame) arrived.items)) }
 {
     let mut received = Vec::with_capacity(alloc, arrived.len())?;
     let mut place: u64 = 0;
@@ -164,6 +159,7 @@ fn hand_up(alloc: Global, arrived: Vec<Stamped>) -> Result<Vec<Received>, AllocE
             queue: 0,
             place,
             frame,
+            tci: None,
         })?;
         place += 1;
     }

@@ -27,7 +27,7 @@ pub enum Status {
 impl Status {
     /// The number that the program ends with, 0 to 8. Own to this project.
     pub fn number(self) -> u8
-        ensures { result ≡ number_of self }
+        ensures number { result ≡ number_of self }
     {
         match self {
             Status::Ok => 0,

@@ -6,14 +6,9 @@ ghost use Rattle.vmx_tool.specs.Lengths.{is_sent, is_short, is_too_long};
 ghost use Rattle.vmx_tool.specs.Summary.{first_line, second_line, summary};
 
 use std::alloc::{AllocError, Global};
-use vmx_model::GuestPlan;
+use vmx_frame::HEADER_LEN;
+use vmx_model::{ABOVE_MTU, GuestPlan};
 use vmx_pcap::Stamped;
-
-/// The shortest frame that is sent, in bytes: an Ethernet header.
-const SHORTEST: usize = 14;
-
-/// The bytes that a frame may have beyond the MTU: an Ethernet header and a VLAN tag.
-const HEADERS: usize = 18;
 
 /// The counts that stay 0 between two guests and a private queue.
 const NO_COUNTS: &str =
@@ -21,8 +16,8 @@ const NO_COUNTS: &str =
 
 /// The two lines for the capture of a guest without a script and with one transmit queue.
 pub fn summary(alloc: Global, sender: &GuestPlan) -> Result<String, AllocError>
-    requires { IsPlain sender.now }
-    ensures { IfOk result (λ s. string_bytes s ≡ summary sender.now) }
+    requires plain { IsPlain sender.now }
+    ensures summary { IfOk result (λ s. string_bytes s ≡ summary sender.now) }
 {
     let records = sender.capture.records.as_slice();
     let (up, short, long) = counts(sender.setup.mtu, records);
@@ -37,26 +32,29 @@ fn counts(mtu: u32, records: &[Stamped]) -> (usize, usize, usize)
     ensures short { result.1 ≡ count_by is_short records.now }
     ensures long { result.2 ≡ count_by (is_too_long mtu) records.now }
 {
-    let longest = mtu as usize + HEADERS;
+    let longest = mtu as usize + ABOVE_MTU;
     let up = records
         .iter()
-        .filter(|r| SHORTEST <= r.frame.len() && r.frame.len() <= longest)
+        .filter(|r| HEADER_LEN <= r.frame.len() && r.frame.len() <= longest)
         .count();
-    let short = records.iter().filter(|r| r.frame.len() < SHORTEST).count();
+    let short = records
+        .iter()
+        .filter(|r| r.frame.len() < HEADER_LEN)
+        .count();
     let long = records.iter().filter(|r| longest < r.frame.len()).count();
     (up, short, long)
 }
 
 #[tactic(auto, unfolding(crate::specs::Summary::first_line))]
 fn first(alloc: Global, captured: usize, tail: u32) -> Result<String, AllocError>
-    ensures { IfOk result (λ s. string_bytes s ≡ first_line captured tail) }
+    ensures line { IfOk result (λ s. string_bytes s ≡ first_line captured tail) }
 {
     format!(in alloc; "guests 2 captured {captured} copies {captured} tail {tail}\n")
 }
 
 #[tactic(auto, unfolding(crate::specs::Summary::second_line, crate::specs::Summary::no_counts))]
 fn second(alloc: Global, up: usize, short: usize, long: usize) -> Result<String, AllocError>
-    ensures { IfOk result (λ s. string_bytes s ≡ second_line up short long) }
+    ensures line { IfOk result (λ s. string_bytes s ≡ second_line up short long) }
 {
     format!(in alloc; "up {up}{NO_COUNTS}{short} too-long {long}\n")
 }

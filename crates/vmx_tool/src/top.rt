@@ -18,6 +18,7 @@ use crate::status::{Outcome, Status};
 use crate::words::pair_names;
 use std::alloc::{AllocError, Global};
 use vmx_io::{Console, Save, Shelf};
+use vmx_model::{MAX_BYTES, MAX_RECORDS};
 use vmx_pcap::{CaptureFault, Stamped};
 
 /// Does what the words ask for. It returns, and calls no gate yet.
@@ -37,13 +38,13 @@ pub fn run<S: Shelf, C: Console, G: Gate + Sync>(
     // When each refusal comes, where the files are told. Want of memory is free.
     ensures usage { pair_of (map string_bytes words.now) ≡ None → EndsAt result.status Status.Usage }
     ensures too_long { (from to : List ℕ) (files : Files) → pair_of (map string_bytes words.now) ≡ Some (from, to) → S.files shelf.old ≡ Some files
-        → 67108864 < length (content files from) → EndsAtOneOf result.status Status.TooLong Status.ReadFault }
+        → MAX_BYTES < length (content files from) → EndsAtOneOf result.status Status.TooLong Status.ReadFault }
     ensures capture { (from to : List ℕ) (files : Files) (e : CaptureFault) → pair_of (map string_bytes words.now) ≡ Some (from, to) → S.files shelf.old ≡ Some files
-        → length (content files from) ≤ 67108864 → HasFault e (content files from) 262144 → (e ≡ CaptureFault.Memory) ⊎ EndsAtOneOf result.status Status.Capture Status.ReadFault }
+        → length (content files from) ≤ MAX_BYTES → HasFault e (content files from) MAX_RECORDS → (e ≡ CaptureFault.Memory) ⊎ EndsAtOneOf result.status Status.Capture Status.ReadFault }
 
     // A run without a fault is `Ok`, but for want of memory.
     ensures complete { (from to : List ℕ) (files : Files) (records : List Stamped) (tail : ℕ) → pair_of (map string_bytes words.now) ≡ Some (from, to) → S.files shelf.old ≡ Some files
-        → HoldsCapture (content files from) records tail → length records ≤ 262144
+        → HoldsCapture (content files from) records tail → length records ≤ MAX_RECORDS
         → (Rose (S.read_faults shelf.old) (S.read_faults shelf.new) → ⊥) → (Rose (S.write_faults shelf.old) (S.write_faults shelf.new) → ⊥) → (Rose (C.faults console.old) (C.faults console.new) → ⊥)
         → EndsAt result.status Status.Ok }
 {
@@ -59,7 +60,7 @@ pub fn run_serial<S: Shelf, C: Console>(
     console: &mut C,
 ) -> Outcome
     // `wants_threads` tells.
-    requires { asks_threads (map string_bytes words.now) ≡ false }
+    requires threads { asks_threads (map string_bytes words.now) ≡ false }
 
     // What each status says, and what stands then.
     ensures ends { Ends result.status result.account (map string_bytes words.now)
@@ -69,13 +70,13 @@ pub fn run_serial<S: Shelf, C: Console>(
     // When each refusal comes, where the files are told. Want of memory is free.
     ensures usage { pair_of (map string_bytes words.now) ≡ None → EndsAt result.status Status.Usage }
     ensures too_long { (from to : List ℕ) (files : Files) → pair_of (map string_bytes words.now) ≡ Some (from, to) → S.files shelf.old ≡ Some files
-        → 67108864 < length (content files from) → EndsAtOneOf result.status Status.TooLong Status.ReadFault }
+        → MAX_BYTES < length (content files from) → EndsAtOneOf result.status Status.TooLong Status.ReadFault }
     ensures capture { (from to : List ℕ) (files : Files) (e : CaptureFault) → pair_of (map string_bytes words.now) ≡ Some (from, to) → S.files shelf.old ≡ Some files
-        → length (content files from) ≤ 67108864 → HasFault e (content files from) 262144 → (e ≡ CaptureFault.Memory) ⊎ EndsAtOneOf result.status Status.Capture Status.ReadFault }
+        → length (content files from) ≤ MAX_BYTES → HasFault e (content files from) MAX_RECORDS → (e ≡ CaptureFault.Memory) ⊎ EndsAtOneOf result.status Status.Capture Status.ReadFault }
 
     // A run without a fault is `Ok`, but for want of memory.
     ensures complete { (from to : List ℕ) (files : Files) (records : List Stamped) (tail : ℕ) → pair_of (map string_bytes words.now) ≡ Some (from, to) → S.files shelf.old ≡ Some files
-        → HoldsCapture (content files from) records tail → length records ≤ 262144
+        → HoldsCapture (content files from) records tail → length records ≤ MAX_RECORDS
         → (Rose (S.read_faults shelf.old) (S.read_faults shelf.new) → ⊥) → (Rose (S.write_faults shelf.old) (S.write_faults shelf.new) → ⊥) → (Rose (C.faults console.old) (C.faults console.new) → ⊥)
         → EndsAt result.status Status.Ok }
 {
@@ -89,7 +90,7 @@ fn run_pair<S: Shelf, C: Console>(
     shelf: &mut S,
     console: &mut C,
 ) -> Outcome
-    ensures { Ends result.status result.account (map string_bytes words.now)
+    ensures ends { Ends result.status result.account (map string_bytes words.now)
         (world S.files S.read_faults S.write_faults C.text C.faults shelf.old console.old)
         (world S.files S.read_faults S.write_faults C.text C.faults shelf.new console.new) }
 {
@@ -161,7 +162,7 @@ fn finish<S: Shelf, C: Console>(
 
 /// The status of a capture that is not there.
 fn stop_status(stop: Stop) -> Status
-    ensures { result ≡ status_of stop }
+    ensures status { result ≡ status_of stop }
 {
     match stop {
         Stop::Failed => Status::ReadFault,

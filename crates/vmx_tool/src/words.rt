@@ -19,7 +19,7 @@ pub fn wants_threads(words: &[String]) -> bool
 /// The names IN and OUT of `pair IN OUT`.
 #[tactic(auto, unfolding(crate::specs::Words::pair_of))]
 pub fn pair_names(words: &[String]) -> Option<(&str, &str)>
-    ensures { option_map (λ x. (x.0.now, x.1.now)) result ≡ pair_of (map string_bytes words.now) }
+    ensures names { option_map (λ x. (x.0.now, x.1.now)) result ≡ pair_of (map string_bytes words.now) }
 {
     match words {
         [word, from, to] => {
@@ -37,7 +37,7 @@ pub fn pair_names(words: &[String]) -> Option<(&str, &str)>
 
 /// 1 to 255 bytes that begin with no dash.
 fn is_file_name(word: &str) -> bool
-    ensures { result ≡ is_name word.now }
+    ensures name { result ≡ is_name word.now }
 {
     match word.as_bytes() {
         [] => false,

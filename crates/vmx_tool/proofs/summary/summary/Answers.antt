@@ -10,4 +10,4 @@ returns c =
     let g = c.args.sender.now in
     let lines : string_bytes c.push_str.new.self
     ≡ lines_of (length g.capture.records) g.capture.tail (count_by (is_sent g.setup.mtu) g.capture.records) (count_by is_short g.capture.records) (count_by (is_too_long g.setup.mtu) g.capture.records) = search rules in
-    lines ∙ summary_by_length g c.requires
+    record { summary = lines ∙ summary_by_length g c.requires.plain }

@@ -3,7 +3,7 @@ use Rattle.vmx_tool.proofs.Ends.{save_failed, save_starved, summary_failed, summ
 use Rattle.vmx_tool.proofs.top.finish.Goals as goal
 
 pub returns-in-Failed-clause-ends : goal.returns-in-Failed-clause-ends
-returns-in-Failed-clause-ends g c = save_failed string_bytes _ c.refuse.result _ _ _ _ _ c.refuse.ensures.line c.write_fault.ensures c.in-Failed.ensures.write.1 c.in-Failed.ensures.content
+returns-in-Failed-clause-ends g c = save_failed string_bytes _ c.refuse.result _ _ _ _ _ c.refuse.ensures.line c.write_fault.ensures.line c.in-Failed.ensures.write_faults.1 c.in-Failed.ensures.content
 
 pub returns-in-NoMemory-clause-ends : goal.returns-in-NoMemory-clause-ends
 returns-in-NoMemory-clause-ends g c = save_starved c.out_of_memory.result _ _ _ _ _ c.out_of_memory.ensures.status c.out_of_memory.ensures.line c.in-NoMemory.ensures.content
@@ -12,7 +12,7 @@ pub returns-in-Failed-write-clause-ends : goal.returns-in-Failed-write-clause-en
 returns-in-Failed-write-clause-ends g c =
     let saved = rw c.as_slice.ensures.bytes at c.in-Done.ensures.content in
     let wrote = rw c.as_bytes.ensures.value at c.in-Failed-write.ensures.content in
-    summary_failed string_bytes _ c.refuse-in-Failed-write.result _ _ _ _ _ _ _ wrote c.in-Failed-write.ensures.cause c.refuse-in-Failed-write.ensures.line c.write_fault-in-Failed-write.ensures c.in-Done.ensures.write saved
+    summary_failed string_bytes _ c.refuse-in-Failed-write.result _ _ _ _ _ _ _ wrote c.in-Failed-write.ensures.faults c.refuse-in-Failed-write.ensures.line c.write_fault-in-Failed-write.ensures.line c.in-Done.ensures.write_faults saved
 
 pub returns-clause-ends : goal.returns-clause-ends
 returns-clause-ends g c =

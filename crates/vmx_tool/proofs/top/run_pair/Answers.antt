@@ -5,26 +5,28 @@ use Rattle.vmx_tool.proofs.top.run_pair.Goals as goal
 
 pub returns-in-Err : goal.returns-in-Err
 returns-in-Err g c =
-    let r = rw c.stop_status.ensures at c.refuse-in-Err.ensures.line in
+    let r = rw c.stop_status.ensures.status at c.refuse-in-Err.ensures.line in
     let l = c.in-Err.ensures in
-    stopped string_bytes c.stop_line.result c.refuse-in-Err.result _ c.in-Err.stop c.in-Some.from.now c.in-Some.to.now _ _ r c.stop_line.ensures c.refuse-in-Err.ensures.account (sym c.in-Some.ensures) l.content l.reads l.files l.writes
+    record { ends = stopped string_bytes c.stop_line.result c.refuse-in-Err.result _ c.in-Err.stop c.in-Some.from.now c.in-Some.to.now _ _ r c.stop_line.ensures.line c.refuse-in-Err.ensures.account (sym c.in-Some.ensures.names) l.content l.reads l.files l.writes }
 
 pub returns-in-Ok-replay : goal.returns-in-Ok-replay
 returns-in-Ok-replay g c =
     let l = c.in-Ok.ensures in
-    let r = c.in-Ok-replay.ensures in
-    finished _ _ _ _ _ _ _ _
-    (record {
-      from = c.in-Some.from.now;
-      to = c.in-Some.to.now;
-      capture = c.in-Ok.read.capture;
-      plan = r.plan;
-      told = c.in-Ok-replay.replayed.«record»;
-      words_are = sym c.in-Some.ensures;
-      captured = l.content.1;
-      few = l.content.0;
-      planned = r.planned;
-      accounts = r.accounts;
-      account_is = c.finish.ensures.account;
-    })
-    (same_world _ _ l.files refl l.reads l.writes refl) c.finish.ensures.reads r.file_is r.lines_are c.finish.ensures.ends
+    let r = c.in-Ok-replay.ensures.replay in
+    record {
+      ends = finished _ _ _ _ _ _ _ _
+          (record {
+            from = c.in-Some.from.now;
+            to = c.in-Some.to.now;
+            capture = c.in-Ok.read.capture;
+            plan = r.plan;
+            told = c.in-Ok-replay.replayed.«record»;
+            words_are = sym c.in-Some.ensures.names;
+            captured = l.content.1;
+            few = l.content.0;
+            planned = r.planned;
+            accounts = r.accounts;
+            account_is = c.finish.ensures.account;
+          })
+          (same_world _ _ l.files refl l.reads l.writes refl) c.finish.ensures.reads r.file_is r.lines_are c.finish.ensures.ends;
+    }

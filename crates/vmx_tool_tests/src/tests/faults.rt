@@ -1,0 +1,153 @@
+//! Words without a meaning, names, files past the limit, and faults of shelf and console.
+ghost use Rattle.std.specs.Prelude.{None};
+
+use super::THREE;
+use crate::captures::{capture, words_of};
+use crate::runs::{ends_so, ran};
+use std::alloc::{AllocError, Global};
+use std::test::Fail;
+use vmx_io::{Load, Save, Shelf, SteadyConsole};
+
+const USAGE: &str =
+    "usage: vmxreplay pair IN OUT\n       vmxreplay replay CONFIG [--threads N]\n       vmxreplay gen NUMBER\n";
+
+const SUMMARY: &str =
+    "guests 2 captured 3 copies 3 tail 0\nup 3 link-full 0 inactive 0 filtered 0 no-buffer 0 discarded 0 no-port 0 down 0 short 0 too-long 0\n";
+
+/// A shelf whose files are longer than any limit.
+#[derive(Drop)]
+struct LongShelf;
+
+impl Shelf for LongShelf {
+    ghost files = { λ _. None };
+
+    ghost read_faults = { λ _. 0 };
+
+    ghost write_faults = { λ _. 0 };
+
+    fn load(&mut self, _alloc: Global, _name: &str, _limit: u64) -> Load {
+        Load::TooLong
+    }
+
+    fn save(&mut self, _alloc: Global, _name: &str, _bytes: &[u8]) -> Save {
+        Save::Done
+    }
+}
+
+#[test]
+fn a_file_past_the_limit_is_refused(rt: HostRuntime) -> Result<(), Fail> {
+    let words = words_of(rt.alloc(), "pair in out")?;
+    let mut console = SteadyConsole::new(rt.alloc());
+    let outcome = ran(rt.alloc(), &words, &mut LongShelf, &mut console);
+    assert!(rt; outcome.status.number() == 5);
+    assert!(rt; console.text() == b"too long: in\n".as_slice());
+    assert!(rt; outcome.account.is_none());
+    Ok(())
+}
+
+/// Whether a run over the three frames' capture, with these faults of shelf and console, ends with this number and text.
+fn ends(
+    alloc: Global,
+    line: &str,
+    failing: (&[u64], &[u64]),
+    number: u8,
+    text: &str,
+) -> Result<bool, AllocError> {
+    ends_so(alloc, capture(alloc, &THREE)?, line, failing, number, text)
+}
+
+/// Lines of words that have no meaning.
+const MEANINGLESS: [&str; 13] = [
+    "",
+    "pair",
+    "pair a",
+    "pair a b c",
+    "pair  b",
+    "pair - b",
+    "pair a --",
+    "Pair a b",
+    "replay",
+    "replay x",
+    "replay x --threads 0",
+    "gen 0",
+    "--help",
+];
+
+#[test]
+fn words_without_a_meaning_are_told_what_has_one(rt: HostRuntime) -> Result<(), Fail> {
+    for line in &MEANINGLESS {
+        assert!(rt; ends(rt.alloc(), line, (&[], &[]), 2, USAGE)?, "{line}");
+    }
+    Ok(())
+}
+
+#[test]
+fn a_console_that_fails_changes_no_status(rt: HostRuntime) -> Result<(), Fail> {
+    for line in &MEANINGLESS {
+        assert!(rt; ends(rt.alloc(), line, (&[0, 1], &[0]), 2, "")?, "{line}");
+    }
+    Ok(())
+}
+
+/// Words, the numbers of the shelf's calls and of the console's writes that fail, the status, and the console's text.
+type Fault = (
+    &'static str,
+    &'static [u64],
+    &'static [u64],
+    u8,
+    &'static str,
+);
+
+const FAULTS: [Fault; 9] = [
+    ("pair in out", &[], &[], 0, SUMMARY),
+    ("pair in out", &[2], &[1], 0, SUMMARY),
+    ("pair x out", &[], &[], 6, "read fault: x\n"),
+    ("pair in out", &[0], &[], 6, "read fault: in\n"),
+    ("pair in out", &[0], &[0], 6, ""),
+    ("pair in out", &[1], &[], 7, "write fault: out\n"),
+    ("pair in out", &[1], &[0], 7, ""),
+    ("pair in out", &[], &[0], 7, "write fault: console\n"),
+    ("pair in out", &[], &[0, 1], 7, ""),
+];
+
+/// Whether a run ends as its row says.
+fn ends_as_told(alloc: Global, fault: &Fault) -> Result<bool, AllocError> {
+    let (line, calls, writes, number, text) = fault;
+    ends(alloc, line, (calls, writes), *number, text)
+}
+
+#[test]
+fn faults_have_their_status_and_line(rt: HostRuntime) -> Result<(), Fail> {
+    for fault in &FAULTS {
+        assert!(rt; ends_as_told(rt.alloc(), fault)?, "{}", fault.4);
+    }
+    Ok(())
+}
+
+/// A name of so many bytes.
+fn name_of(alloc: Global, len: u32) -> Result<String, AllocError> {
+    let mut name = String::new(alloc);
+    for _ in 0..len {
+        name.push('n')?;
+    }
+    Ok(name)
+}
+
+/// Whether a name IN of so many bytes, under which no file stands, ends with this number.
+fn name_ends(alloc: Global, len: u32, number: u8) -> Result<bool, AllocError> {
+    let name = name_of(alloc, len)?;
+    let text = if number == 2 {
+        String::from_str(alloc, USAGE)?
+    } else {
+        format!(in alloc; "read fault: {name}\n")?
+    };
+    let line = format!(in alloc; "pair {name} out")?;
+    ends(alloc, line.as_str(), (&[], &[]), number, text.as_str())
+}
+
+#[test]
+fn names_have_at_most_255_bytes(rt: HostRuntime) -> Result<(), Fail> {
+    assert!(rt; name_ends(rt.alloc(), 255, 6)?);
+    assert!(rt; name_ends(rt.alloc(), 256, 2)?);
+    Ok(())
+}
