@@ -117,14 +117,17 @@ _Static_assert(offsetof(struct shared_head, rss) == 648 && sizeof(struct shared_
 
 struct queue_desc {
     uint8_t ctrl[16];
-    uint64_t ring_pa, other_pa, comp_pa, dd_pa, unnamed;
+    uint64_t ring_pa, other_pa, comp_pa, dd_pa, rx_data_pa;
     uint32_t size, other_size, comp_size, dd_len;
-    uint8_t interrupt, pad0[7];
-    uint8_t stopped, pad1[3];
+    uint8_t interrupt, pad0;
+    uint16_t rx_data_entry;
+    uint8_t pad1[4];
+    uint8_t stopped, pad2[3];
     uint32_t error;
     uint64_t counts[10];
-    uint8_t pad2[88];
+    uint8_t pad3[88];
 } __attribute__((packed));
+_Static_assert(offsetof(struct queue_desc, rx_data_pa) == 48 && offsetof(struct queue_desc, rx_data_entry) == 74, "");
 _Static_assert(offsetof(struct queue_desc, counts) == 88 && sizeof(struct queue_desc) == 256, "");
 
 static int faults;
@@ -141,7 +144,8 @@ static void same(const char *what, uint64_t wanted, uint64_t found)
         fault(what, wanted, found);
 }
 
-static void check_image(const char *hex)
+/* The image of the default settings; or of the same with data rings, tags taken out and checksums. */
+static void check_image(const char *hex, int with_data)
 {
     static uint8_t bytes[8192];
     struct shared_head head;
@@ -158,7 +162,7 @@ static void check_image(const char *hex)
     same("magic", 0xbabefee1, head.magic);
     same("revisions", 1, head.revisions);
     same("upt_versions", 1, head.upt_versions);
-    same("features", 0, head.features);
+    same("features", with_data ? 5 : 0, head.features);
     same("queues_pa", 0x10400, head.queues_pa);
     same("queues_len", 512, head.queues_len);
     same("mtu", 1500, head.mtu);
@@ -175,14 +179,17 @@ static void check_image(const char *hex)
     same("rss.len", 0, head.rss.len);
     same("events", 0, head.events);
     same("tx.ring_pa", 0x10000000, tx.ring_pa);
+    same("tx.other_pa", with_data ? 0x10020000 : 0, tx.other_pa);
     same("tx.comp_pa", 0x10010000, tx.comp_pa);
     same("tx.size", 512, tx.size);
-    same("tx.other_size", 0, tx.other_size);
+    same("tx.other_size", with_data ? 512 : 0, tx.other_size);
     same("tx.comp_size", 512, tx.comp_size);
     same("tx.interrupt", 0, tx.interrupt);
     same("rx.ring_pa", 0x20000000, rx.ring_pa);
     same("rx.other_pa", 0x20010000, rx.other_pa);
     same("rx.comp_pa", 0x20020000, rx.comp_pa);
+    same("rx.rx_data_pa", with_data ? 0x20040000 : 0, rx.rx_data_pa);
+    same("rx.rx_data_entry", with_data ? 128 : 0, rx.rx_data_entry);
     same("rx.size", 256, rx.size);
     same("rx.other_size", 256, rx.other_size);
     same("rx.comp_size", 512, rx.comp_size);
@@ -233,12 +240,14 @@ int main(int argc, char **argv)
         if (found)
             check_words(found, line + length);
         else if (!strncmp(line, "Image ", 6) && ++images)
-            check_image(line + 6);
+            check_image(line + 6, 0);
+        else if (!strncmp(line, "DataImage ", 10) && ++images)
+            check_image(line + 10, 1);
         else
             others++;
     }
     fclose(file);
-    same("images", 1, images);
+    same("images", 2, images);
     same("lines of another kind", 0, others);
     for (size_t k = 0; k < sizeof kinds / sizeof kinds[0]; k++)
         same(kinds[k].name, kinds[k].lines_wanted, kinds[k].lines_seen);

@@ -8,7 +8,6 @@ use std::thread;
 use std::thread::Threads;
 use std::time::Instant;
 use vmx_ends::{Packet, Tag};
-use vmx_io::Bytes;
 use vmx_link::{LinkIn, LinkOut, Pull, Push, pair};
 
 /// How many packets go round between the two threads.
@@ -18,15 +17,13 @@ const AFLOAT: u32 = 32;
 const TRIES: u64 = 1 << 40;
 
 fn packet_of(alloc: Global) -> Result<Packet, AllocError> {
-    Ok(Packet {
-        tag: Tag {
-            guest: 0,
-            activation: 0,
-            queue: 0,
-            place: 0,
-        },
-        frame: Bytes::of(Vec::from_elem(alloc, 7u8, 1500)?),
-    })
+    let tag = Tag {
+        guest: 0,
+        activation: 0,
+        queue: 0,
+        place: 0,
+    };
+    Ok(Packet::holding(tag, Vec::from_elem(alloc, 7u8, 1500)?))
 }
 
 /// Pushes a packet and pulls it again, this many times.
@@ -131,10 +128,10 @@ pub fn measure<R: Print + Clock + Threads + Sync>(
     let (there, back) = thread::join(
         rt,
         move ||
-            requires { (length (out_view there_out).pushed ≤ 64) × (length (out_view there_out).full ≤ 64) × (length (in_view back_in).pulled ≤ 64) }
+            requires room { (length (out_view there_out).pushed ≤ 64) × (length (out_view there_out).full ≤ 64) × (length (in_view back_in).pulled ≤ 64) }
         { forward(back_in, there_out, count) },
         move ||
-            requires { (length (out_view back_out).pushed ≤ 64) × (length (out_view back_out).full ≤ 64) × (length (in_view there_in).pulled ≤ 64) }
+            requires room { (length (out_view back_out).pushed ≤ 64) × (length (out_view back_out).full ≤ 64) × (length (in_view there_in).pulled ≤ 64) }
         { forward(there_in, back_out, count) },
     );
     let took = start.elapsed(rt)?.as_nanos();

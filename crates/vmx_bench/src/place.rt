@@ -43,7 +43,7 @@ pub fn each_value(
     base: (u64, u64),
     places: &[Place],
 ) -> Result<Vec<(u64, u64)>, AllocError>
-    ensures { IfOk result (λ samples. vec_len samples ≡ 6 * length places.now) }
+    ensures count { IfOk result (λ samples. vec_len samples ≡ 6 * length places.now) }
 {
     let mut full = base;
     for place in places {
@@ -61,7 +61,7 @@ fn put_each(
     base: (u64, u64),
     places: &[Place],
 ) -> Result<(), AllocError>
-    ensures { OnOk result (vec_len samples.new ≡ vec_len samples.old + 3 * length places.now) }
+    ensures count { OnOk result (vec_len samples.new ≡ vec_len samples.old + 3 * length places.now) }
 {
     for place in places {
         for value in place.values() {

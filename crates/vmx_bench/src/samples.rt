@@ -1,7 +1,7 @@
-//! `samples FILE`: the default image, and words of descriptors and completions with their fields.
+//! `samples FILE`: two images, and words of descriptors and completions with their fields.
 //!
 //! Each line is the name of a struct, its two words, and its fields in the struct's order, all in hexadecimal;
-//! the line of the image has its 8,192 bytes. `bench/samples.c` reads the words with bit fields in C.
+//! the line of an image has its 8,192 bytes. `bench/samples.c` reads the words with bit fields in C.
 
 mod image;
 mod rx;

@@ -1,36 +1,33 @@
 //! The image of a guest with the default settings: one queue each way, rings of 512, 256 and 256 descriptors, an MTU
-//! of 1,500 bytes, unicast, multicast and broadcast let in, every VLAN, no RSS.
+//! of 1,500 bytes, unicast, multicast and broadcast let in, every VLAN, no RSS; and that of one with data rings besides.
 
 use std::alloc::{AllocError, Global};
-use vmx_shared_area::{Filter, Image, MacTable, Setup, write};
+use vmx_shared_area::{Image, Setup, write};
 
-/// One line with all bytes of the image.
+/// A line for each of the two images.
 pub fn put(alloc: Global, text: &mut String) -> Result<(), AllocError> {
+    put_image(alloc, text, "Image", &Setup::by_default())?;
+    let mut with_data = Setup::by_default();
+    with_data.tx_data = true;
+    with_data.rx_data = true;
+    with_data.strip = true;
+    with_data.csum = true;
+    put_image(alloc, text, "DataImage", &with_data)
+}
+
+/// One line with all bytes of the image of a setup.
+fn put_image(
+    alloc: Global,
+    text: &mut String,
+    name: &str,
+    setup: &Setup,
+) -> Result<(), AllocError> {
     let mut image = Image::new(alloc)?;
-    write(&default_setup(), &mut image);
-    text.push_str("Image ")?;
+    write(setup, &mut image);
+    text.push_str(name)?;
+    text.push_str(" ")?;
     for byte in image.bytes() {
         write!(text, "{byte:02x}")?;
     }
     text.push_str("\n")
-}
-
-fn default_setup() -> Setup {
-    let filter = Filter {
-        mode: 7,
-        multicast: MacTable::empty(),
-        vlans: [u32::MAX; 128],
-    };
-    Setup {
-        tx_queues: 1,
-        rx_queues: 1,
-        tx_ring: 512,
-        rx_ring1: 256,
-        rx_ring2: 256,
-        mtu: 1500,
-        filter,
-        rss: None,
-        auto_mask: true,
-        levels: [0; 25],
-    }
 }
