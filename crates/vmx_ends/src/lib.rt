@@ -13,6 +13,7 @@ mod frames;
 mod limits;
 mod made;
 mod meta;
+mod needs;
 mod packet;
 mod queues;
 mod rx;
@@ -30,6 +31,7 @@ pub use limits::{
 };
 pub use made::{Bodies, RxMade, RxShape, TxMade};
 pub use meta::{RxMeta, TxMark};
+pub use needs::need_of;
 pub use packet::{Packet, QueueName, Tag};
 pub use queues::{TxQueues, make_queues, meet_queues};
 pub use rx::{RxDevice, RxDriver, RxFacts, RxNote};

@@ -1,10 +1,9 @@
 //! Where a guest's memory has its image, its rings, its data rings and its buffers: guest physical addresses, in bytes.
-//! All of them are own to this project. A queue is below `MAX_QUEUES`, an entry or a buffer below `MAX_RING_SIZE`.
+//! All of them are own to this project. Any number of a queue has its addresses, though a device has at most `MAX_QUEUES` a side;
+//! an entry or a buffer is below `MAX_RING_SIZE`.
 
 ghost use Rattle.std.specs.Prelude.{◌≡◌, ◌<◌, ◌≤◌};
 ghost use Rattle.vmx_layout.specs.Addresses.{tx_ring, tx_completion_ring, tx_data_ring, tx_data_entry, tx_buffer, rx_ring1, rx_ring2, rx_completion_ring, rx_data_ring, rx_data_entry, rx_buffer};
-
-use crate::register::MAX_QUEUES;
 
 /// The image of the shared area.
 pub const IMAGE: u64 = 0x1_0000;
@@ -68,7 +67,6 @@ pub const MAX_RING_SIZE: u32 = 4_096;
 
 /// The descriptor ring of a transmit queue.
 pub fn tx_ring_address(queue: u32) -> u64
-    requires queue { queue < MAX_QUEUES }
     ensures value { result ≡ tx_ring queue }
 {
     TX_RINGS + u64::from(queue) * RINGS_OF_QUEUE
@@ -76,7 +74,6 @@ pub fn tx_ring_address(queue: u32) -> u64
 
 /// The completion ring of a transmit queue.
 pub fn tx_completion_ring_address(queue: u32) -> u64
-    requires queue { queue < MAX_QUEUES }
     ensures value { result ≡ tx_completion_ring queue }
 {
     tx_ring_address(queue) + TX_COMPLETION_RING_OFFSET
@@ -84,7 +81,6 @@ pub fn tx_completion_ring_address(queue: u32) -> u64
 
 /// The data ring of a transmit queue.
 pub fn tx_data_ring_address(queue: u32) -> u64
-    requires queue { queue < MAX_QUEUES }
     ensures value { result ≡ tx_data_ring queue }
 {
     tx_ring_address(queue) + TX_DATA_RING_OFFSET
@@ -92,7 +88,6 @@ pub fn tx_data_ring_address(queue: u32) -> u64
 
 /// An entry of a transmit queue's data ring.
 pub fn tx_data_entry_address(queue: u32, index: u32) -> u64
-    requires queue { queue < MAX_QUEUES }
     requires index { index < MAX_RING_SIZE }
     ensures value { result ≡ tx_data_entry queue index }
 {
@@ -101,7 +96,6 @@ pub fn tx_data_entry_address(queue: u32, index: u32) -> u64
 
 /// A buffer of a transmit queue.
 pub fn tx_buffer_address(queue: u32, index: u32) -> u64
-    requires queue { queue < MAX_QUEUES }
     requires index { index < MAX_RING_SIZE }
     ensures value { result ≡ tx_buffer queue index }
 {
@@ -110,7 +104,6 @@ pub fn tx_buffer_address(queue: u32, index: u32) -> u64
 
 /// Ring 1 of a receive queue.
 pub fn rx_ring1_address(queue: u32) -> u64
-    requires queue { queue < MAX_QUEUES }
     ensures value { result ≡ rx_ring1 queue }
 {
     RX_RINGS + u64::from(queue) * RINGS_OF_QUEUE
@@ -118,7 +111,6 @@ pub fn rx_ring1_address(queue: u32) -> u64
 
 /// Ring 2 of a receive queue.
 pub fn rx_ring2_address(queue: u32) -> u64
-    requires queue { queue < MAX_QUEUES }
     ensures value { result ≡ rx_ring2 queue }
 {
     rx_ring1_address(queue) + RX_RING2_OFFSET
@@ -126,7 +118,6 @@ pub fn rx_ring2_address(queue: u32) -> u64
 
 /// The completion ring of a receive queue.
 pub fn rx_completion_ring_address(queue: u32) -> u64
-    requires queue { queue < MAX_QUEUES }
     ensures value { result ≡ rx_completion_ring queue }
 {
     rx_ring1_address(queue) + RX_COMPLETION_RING_OFFSET
@@ -134,7 +125,6 @@ pub fn rx_completion_ring_address(queue: u32) -> u64
 
 /// The data ring of a receive queue.
 pub fn rx_data_ring_address(queue: u32) -> u64
-    requires queue { queue < MAX_QUEUES }
     ensures value { result ≡ rx_data_ring queue }
 {
     rx_ring1_address(queue) + RX_DATA_RING_OFFSET
@@ -142,7 +132,6 @@ pub fn rx_data_ring_address(queue: u32) -> u64
 
 /// An entry of a receive queue's data ring: that of the head with this index in ring 1.
 pub fn rx_data_entry_address(queue: u32, index: u32) -> u64
-    requires queue { queue < MAX_QUEUES }
     requires index { index < MAX_RING_SIZE }
     ensures value { result ≡ rx_data_entry queue index }
 {
@@ -151,7 +140,6 @@ pub fn rx_data_entry_address(queue: u32, index: u32) -> u64
 
 /// A buffer of a ring, 1 or 2, of a receive queue.
 pub fn rx_buffer_address(queue: u32, ring: u32, index: u32) -> u64
-    requires queue { queue < MAX_QUEUES }
     requires ring { (1 ≤ ring) × (ring ≤ 2) }
     requires index { index < MAX_RING_SIZE }
     ensures value { result ≡ rx_buffer queue ring index }

@@ -8,24 +8,43 @@ ghost use Rattle.vmx_layout.specs.Command.{number_of, IsNoCommand};
 /// A command of the driver: 0xCAFE.... sets something, 0xF00D.... asks for a value.
 #[derive(Clone, Copy, Debug, PartialEq, Eq)]
 pub enum Command {
+    /// Takes the image of the shared area and the queue ends of the bag. Answers 0, or the number of the first failing check, 1 to 9.
     ActivateDev,
+    /// Ends the activation: the queue ends go back into the bag.
     QuiesceDev,
+    /// Ends the activation as `QuiesceDev` does, and clears stopped queues with their errors.
     ResetDev,
+    /// Takes the receive mode, 4 bytes of bits, from the image anew.
     UpdateRxMode,
+    /// Takes the multicast table, at most 256 addresses of 6 bytes, from the image anew.
     UpdateMacFilters,
+    /// Takes the VLAN table, a bit for each identifier 0 to 4,095, from the image anew.
     UpdateVlanFilters,
+    /// Takes the size and the entries of the RSS indirection table from the image anew.
     UpdateRssidt,
+    /// Takes the interrupt moderation levels, a byte for each of 25 interrupts, from the image anew.
     UpdateIml,
+    /// Power management. Not supported: answered like a number without a command.
     UpdatePmcfg,
+    /// Takes the features (RXCSUM, RSS, RXVLAN) from the image anew.
     UpdateFeature,
+    /// Writes into the image, for each queue, whether it is stopped, and its error number.
     GetQueueStatus,
+    /// Writes into the image the ten statistics of each queue, in frames and bytes.
     GetStats,
+    /// Answers the link's speed in megabits a second in bits 16 to 31, and in bit 0 whether it is up.
     GetLink,
+    /// Answers bytes 0 to 3 of the permanent MAC address, byte 0 in bits 0 to 7.
     GetPermMacLo,
+    /// Answers bytes 4 and 5 of the permanent MAC address, byte 4 in bits 0 to 7.
     GetPermMacHi,
+    /// Answers the low half of the device's identity: the PCI device number of vmxnet3.
     GetDidLo,
+    /// Answers the high half of the device's identity: the device revision.
     GetDidHi,
+    /// Answers further facts about the device: there are none, so 0.
     GetDevExtraInfo,
+    /// Answers the interrupts' configuration: the type in bits 0 and 1, the mask mode in bits 2 and 3.
     GetConfIntr,
 }
 
@@ -59,11 +78,11 @@ pub const GET_LINK: u32 = 0xf00d_0002;
 pub const GET_PERM_MAC_LO: u32 = 0xf00d_0003;
 /// Linux's VMXNET3_CMD_GET_PERM_MAC_HI.
 pub const GET_PERM_MAC_HI: u32 = 0xf00d_0004;
-/// Own to this project.
+/// Own to this project: the next number of its group that Linux's revision 1 leaves free.
 pub const GET_DID_LO: u32 = 0xf00d_0005;
-/// Own to this project.
+/// Own to this project: the next number of its group that Linux's revision 1 leaves free.
 pub const GET_DID_HI: u32 = 0xf00d_0006;
-/// Own to this project.
+/// Own to this project: the next number of its group that Linux's revision 1 leaves free.
 pub const GET_DEV_EXTRA_INFO: u32 = 0xf00d_0007;
 /// Linux's VMXNET3_CMD_GET_CONF_INTR.
 pub const GET_CONF_INTR: u32 = 0xf00d_0008;
@@ -99,6 +118,7 @@ impl Command {
         }
     }
 
+    /// The number of 32 bits that a driver writes into the register CMD.
     pub fn number(&self) -> u32
         ensures value { result ≡ number_of self.now }
     {

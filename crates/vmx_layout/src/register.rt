@@ -1,14 +1,14 @@
 //! The registers of the device. Each has 32 bits and stands at a multiple of 8 in its BAR: the doorbells and the
-//! interrupt masks in BAR 0, all others in BAR 1. The offsets are Linux's; the limits of 25 interrupts and of
-//! 8 queues are own to this project.
+//! interrupt masks in BAR 0, all others in BAR 1. The offsets are Linux's, and so is the limit of 25 interrupts; that of
+//! 8 receive queues is own to this project.
 
 ghost use Rattle.std.specs.Prelude.{◌<◌};
 ghost use Rattle.vmx_layout.specs.declared.register.TheConstants.{MAX_INTERRUPTS, MAX_QUEUES};
 
-/// The most interrupts of a device. Own to this project.
+/// The most interrupts of a device: Linux's VMXNET3_MAX_INTRS, 8 transmit and 16 receive queues' and the events' one.
 pub const MAX_INTERRUPTS: u32 = 25;
 
-/// The most queues of a side of a device. Own to this project.
+/// The most queues of a side of a device: Linux's VMXNET3_MAX_TX_QUEUES, and taken for the receive side too (own to this project).
 pub const MAX_QUEUES: u32 = 8;
 
 /// The number of an interrupt, 0 to 24.

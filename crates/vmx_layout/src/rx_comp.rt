@@ -92,7 +92,7 @@ pub const KIND_WIDTH: u32 = 7;
 /// These are Linux's fields. The bits 12, 13 and 31 of part 0 must be 0, which is own to this project.
 #[derive(Clone, Copy, Debug, PartialEq, Eq)]
 pub struct RxComp {
-    /// The index of the descriptor in its ring.
+    /// The index of the descriptor in its ring, 0 to 4,095.
     pub rxd_idx: u16,
     /// The last piece of its frame.
     pub eop: bool,
@@ -107,15 +107,15 @@ pub struct RxComp {
     pub cnc: bool,
     /// The hash of the frame's flow, or 0.
     pub rss_hash: u32,
-    /// The piece's length in bytes.
+    /// The piece's length in bytes, 0 to 16,383.
     pub len: u16,
     /// The frame has an error.
     pub err: bool,
     /// A tag was taken off.
     pub ts: bool,
-    /// The tag that was taken off.
+    /// The tag control information that was taken off (IEEE 802.1Q).
     pub tci: u16,
-    /// The checksum.
+    /// The ones' complement sum of the frame after its link header (RFC 1071), where one was computed.
     pub csum: u16,
     /// The TCP or UDP checksum is right.
     pub tuc: bool,
@@ -135,6 +135,7 @@ pub struct RxComp {
     pub fcs: bool,
     /// The type, `RX_COMPLETION_TYPE`.
     pub kind: u8,
+    /// Bit 31 of part 3: the ring's generation where the driver owns the completion.
     pub generation: bool,
     ghost rxd_idx_fits: { rxd_idx < 2 ^ RXD_IDX_WIDTH },
     ghost rq_id_fits: { rq_id < 2 ^ RQ_ID_WIDTH },

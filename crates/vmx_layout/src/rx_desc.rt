@@ -51,9 +51,11 @@ pub struct RxDesc {
     pub addr: u64,
     /// The buffer's length in bytes, where 0 stands for 16,384.
     pub len: u16,
-    /// 0 for a head, 1 for a body.
+    /// Bit 14 of part 2: 0 for a head, 1 for a body.
     pub btype: BufferType,
+    /// Bit 15 of part 2: the descriptor's type. No end reads it.
     pub dtype: bool,
+    /// Bit 31 of part 2: the ring's generation where the device owns the descriptor.
     pub generation: bool,
     ghost addr_fits: { addr < 2 ^ 64 },
     ghost len_fits: { len < 2 ^ LEN_WIDTH },

@@ -49,10 +49,11 @@ pub const KIND_WIDTH: u32 = 7;
 /// These are Linux's fields. All other bits must be 0, which is own to this project.
 #[derive(Clone, Copy, Debug, PartialEq, Eq)]
 pub struct TxComp {
-    /// The index of the packet's last descriptor.
+    /// The index of the packet's last descriptor in its ring, 0 to 4,095.
     pub txd_idx: u16,
     /// The type, `TX_COMPLETION_TYPE`.
     pub kind: u8,
+    /// Bit 31 of part 3: the ring's generation where the driver owns the completion.
     pub generation: bool,
     ghost txd_idx_fits: { txd_idx < 2 ^ TXD_IDX_WIDTH },
     ghost kind_is: { kind ≡ TX_COMPLETION_TYPE },

@@ -61,23 +61,27 @@ pub struct TxDesc {
     pub addr: u64,
     /// The piece's length in bytes, where 0 stands for 16,384.
     pub len: u16,
+    /// Bit 14 of part 2: the ring's generation where the device owns the descriptor.
     pub generation: bool,
+    /// Bit 16 of part 2: the descriptor's type. No end reads it.
     pub dtype: bool,
+    /// Bit 17 of part 2: an extension. No end reads it.
     pub ext1: bool,
-    /// The maximum segment size, or the offset of the checksum.
+    /// The maximum segment size in bytes (`om` 3), or the checksum's offset from the frame's first byte (`om` 2); 0 to 16,383.
     pub msscof: u16,
-    /// The length of the headers in bytes.
+    /// The length of the headers in bytes, 0 to 1,023.
     pub hlen: u16,
     /// The offload mode: 0 none, 2 checksum, 3 TSO. The queue ends refuse 1.
     pub om: u8,
-    /// The last descriptor of its packet.
+    /// Bit 12 of part 3: the last descriptor of its packet.
     pub eop: bool,
-    /// A completion is wanted.
+    /// Bit 13 of part 3: a completion is wanted.
     pub cq: bool,
+    /// Bit 14 of part 3: an extension. No end reads it.
     pub ext2: bool,
-    /// A tag is to be inserted.
+    /// Bit 15 of part 3: a tag is to be inserted.
     pub ti: bool,
-    /// The tag to insert.
+    /// The tag control information to insert (IEEE 802.1Q): priority in bits 13 to 15, VLAN identifier in bits 0 to 11.
     pub tci: u16,
     ghost addr_fits: { addr < 2 ^ 64 },
     ghost len_fits: { len < 2 ^ LEN_WIDTH },

@@ -10,9 +10,8 @@ ghost use Rattle.vmx_queue_reference.specs.PlainFrames.{ArePosted, needed_from};
 
 use crate::rx::put;
 use std::alloc::{AllocError, Global};
-use vmx_ends::{Post, TxMade, TxMark};
+use vmx_ends::{Post, TxMade, TxMark, need_of};
 use vmx_io::{Bytes, List};
-use vmx_layout::DATA_ENTRY_SIZE;
 
 /// A frame that was posted, with its mark.
 #[derive(Drop)]
@@ -129,32 +128,6 @@ impl PlainTx {
             place: place as u64,
             descriptors,
         })
-    }
-}
-
-/// How many pieces of this size so many bytes have.
-fn begun_in(bytes: usize, piece: u32) -> u32
-    requires piece { (MIN_PIECE ≤ piece) × (piece ≤ MAX_PIECE) }
-    requires bytes { bytes ≤ MAX_FRAME }
-    ensures begun { result ≡ (bytes + (piece - 1)) / piece }
-    ensures few { result ≤ MAX_DESCRIPTORS }
-{
-    (bytes as u32 + (piece - 1)) / piece
-}
-
-/// How many descriptors a frame of so many bytes needs: one for each piece, at most 16.
-#[tactic(auto, using(vmx_ends::specs::TransmitCounts::need_few))]
-fn need_of(made: &TxMade, bytes: usize) -> u32
-    requires piece { (least_piece made.now.with_data ≤ made.now.piece) × (made.now.piece ≤ MAX_PIECE) }
-    requires bytes { bytes ≤ MAX_FRAME }
-    ensures need { result ≡ need made.now bytes }
-    ensures few { result ≤ MAX_DESCRIPTORS }
-{
-    let made = *made;
-    if made.with_data {
-        1 + begun_in(bytes.saturating_sub(DATA_ENTRY_SIZE as usize), made.piece)
-    } else {
-        begun_in(bytes, made.piece)
     }
 }
 

@@ -4,12 +4,11 @@ ghost use Rattle.vmx_layout.specs.declared.TheConstants.{TX_DESC_GENERATION_BIT}
 ghost use Rattle.vmx_ends.specs.Words.{missed_word};
 ghost use Rattle.vmx_io.specs.declared.buffer.TheConstants.{MAX_FRAME};
 
-use super::driver::need_of;
 use super::log::TxParcel;
 use super::plays::{DeviceLook, DeviceNote, DeviceReturns, DeviceStore, DeviceTold, HearDriver};
 use super::{ListTxDevice, ListTxNote, TxSlip};
 use crate::bytes::put;
-use vmx_ends::{Take, TxDevice};
+use vmx_ends::{Take, TxDevice, need_of};
 use vmx_layout::TX_DESC_GENERATION_BIT;
 
 /// Puts the frame of a parcel into an empty buffer.

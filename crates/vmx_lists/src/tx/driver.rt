@@ -11,39 +11,13 @@ use super::log::TxParcel;
 use super::plays::{DriverLook, DriverNote, DriverOpens, DriverStore, DriverTold, HearDevice};
 use super::{ListTxDriver, ListTxNote, TxSlip};
 use crate::bytes::fill;
-use vmx_ends::{Post, Reap, TxDriver, TxMade, TxMark, TxNote};
+use vmx_ends::{Post, Reap, TxDriver, TxMade, TxMark, TxNote, need_of};
 use vmx_layout::{COMPLETION_GENERATION_BIT, DATA_ENTRY_SIZE};
 
 impl TxNote for ListTxNote {
     ghost use Rattle.vmx_lists.specs.TxEnds.{note_view};
 
     ghost view = { note_view };
-}
-
-/// How many pieces of this size so many bytes have.
-fn begun_in(bytes: usize, piece: u32) -> u32
-    requires piece { (MIN_PIECE ≤ piece) × (piece ≤ MAX_PIECE) }
-    requires bytes { bytes ≤ MAX_FRAME }
-    ensures begun { result ≡ (bytes + (piece - 1)) / piece }
-    ensures few { result ≤ MAX_DESCRIPTORS }
-{
-    (bytes as u32 + (piece - 1)) / piece
-}
-
-/// How many descriptors a frame of so many bytes needs: one for each piece, at most 16.
-#[tactic(auto, using(vmx_ends::specs::TransmitCounts::need_few))]
-pub(crate) fn need_of(made: &TxMade, bytes: usize) -> u32
-    requires piece { (least_piece made.now.with_data ≤ made.now.piece) × (made.now.piece ≤ MAX_PIECE) }
-    requires bytes { bytes ≤ MAX_FRAME }
-    ensures need { result ≡ need made.now bytes }
-    ensures few { result ≤ MAX_DESCRIPTORS }
-{
-    let made = *made;
-    if made.with_data {
-        1 + begun_in(bytes.saturating_sub(DATA_ENTRY_SIZE as usize), made.piece)
-    } else {
-        begun_in(bytes, made.piece)
-    }
 }
 
 /// Puts a frame and its mark into a parcel.
