@@ -7,12 +7,19 @@ use Rattle.std.proofs.lemmas.List.Concat.{flat_map-cons}
 use Rattle.byteorder.specs.Endian.{little_number}
 use Rattle.byteorder.specs.Numbers.{little_number-reads_back}
 use Rattle.vmx_pcap.specs.declared.records.Stamped.{Stamped}
+use Rattle.vmx_pcap.specs.declared.kinds.Encoding.{Encoding}
+use Rattle.vmx_pcap.specs.declared.kinds.Endian.TheVariants.{Little}
+use Rattle.vmx_pcap.specs.declared.kinds.TimeUnit.TheVariants.{Micros}
 use Rattle.vmx_pcap.specs.Fields.{u16_at, u32_at, u32_bytes}
 use Rattle.vmx_pcap.specs.Capture.{AreRecords, IsWhole, IsHeader, IsCapture, captured_length, record_at, after_record}
 use Rattle.vmx_pcap.specs.Written.{Fits, record_bytes, header_bytes, capture_bytes}
 use Rattle.vmx_pcap.specs.Pushed.{capture_bytes-push}
 
-field_again : (i n : ℕ) (bytes rest : List ℕ) → drop i bytes ≡ u32_bytes n ++ rest → n < 2 ^ 32 → u32_at i bytes ≡ n
+-- what is written is little-endian, in microseconds
+abbrev written : Encoding
+written = record { endian = Little; unit = Micros }
+
+field_again : (i n : ℕ) (bytes rest : List ℕ) → drop i bytes ≡ u32_bytes n ++ rest → n < 2 ^ 32 → u32_at Little i bytes ≡ n
 unfolding u32_at u32_bytes
 field_again i n bytes rest is fits = ap (little_number 4) is ∙ little_number-reads_back 4 n rest (omega arith)
 
@@ -21,9 +28,9 @@ unfolding u32_bytes
 length_record r = omega arith
 
 record Parts (r : Stamped) (more : List ℕ) : Type 0 where
-  seconds : u32_at 0 (record_bytes r ++ more) ≡ r.seconds
-  micros : u32_at 4 (record_bytes r ++ more) ≡ r.micros
-  captured : captured_length (record_bytes r ++ more) ≡ length r.frame
+  seconds : u32_at Little 0 (record_bytes r ++ more) ≡ r.seconds
+  micros : u32_at Little 4 (record_bytes r ++ more) ≡ r.micros
+  captured : captured_length written (record_bytes r ++ more) ≡ length r.frame
   long : length (record_bytes r ++ more) ≡ 16 + length r.frame + length more
   frame : drop 16 (record_bytes r ++ more) ≡ r.frame ++ more
 
@@ -37,23 +44,23 @@ parts r more fits = record {
   frame = refl;
 }
 
-record_again : (r : Stamped) (more : List ℕ) → Fits r → IsWhole (record_bytes r ++ more) × (r ≡ record_at (record_bytes r ++ more)) × (after_record (record_bytes r ++ more) ≡ more)
+record_again : (r : Stamped) (more : List ℕ) → Fits r → IsWhole written (record_bytes r ++ more) × (r ≡ record_at written (record_bytes r ++ more)) × (after_record written (record_bytes r ++ more) ≡ more)
 record_again r more fits =
     let p = parts r more fits in
-    let frame : take (captured_length (record_bytes r ++ more)) (drop 16 (record_bytes r ++ more)) ≡ r.frame =
+    let frame : take (captured_length written (record_bytes r ++ more)) (drop 16 (record_bytes r ++ more)) ≡ r.frame =
     ap (λ n. take n (drop 16 (record_bytes r ++ more))) p.captured ∙ ap (take (length r.frame)) p.frame ∙ take_at r.frame more _ refl in (
       record { header = omega (arith, p.long); limit = omega (arith, p.captured, fits.frame); frame = omega (arith, p.long, p.captured) },
       λ i. record { seconds = sym p.seconds i; micros = sym p.micros i; frame = sym frame i },
       ap (λ n. drop (16 + n) (record_bytes r ++ more)) p.captured ∙ drop_at (record_bytes r) more (16 + length r.frame) (length_record r),
     )
 
-records_again : (rs : List Stamped) → AllByRecursion Fits rs → AreRecords (flat_map record_bytes rs) rs []
+records_again : (rs : List Stamped) → AllByRecursion Fits rs → AreRecords written (flat_map record_bytes rs) rs []
 records_again [] fits = refl
 records_again (r ∷ rs) fits =
     let one = record_again r (flat_map record_bytes rs) fits.0 in
-    subst (λ b. AreRecords b (r ∷ rs) []) (sym (flat_map-cons record_bytes r rs)) (one.0, one.1, subst (λ b. AreRecords b rs []) (sym one.2) (records_again rs fits.1))
+    subst (λ b. AreRecords written b (r ∷ rs) []) (sym (flat_map-cons record_bytes r rs)) (one.0, one.1, subst (λ b. AreRecords written b rs []) (sym one.2) (records_again rs fits.1))
 
-header_again : (more : List ℕ) → IsHeader (header_bytes ++ more)
+header_again : (more : List ℕ) → IsHeader written (header_bytes ++ more)
 unfolding u16_at u32_at header_bytes
 header_again more = record { whole = omega arith; magic = refl; major = refl; minor = refl; link = refl }
 
@@ -62,7 +69,7 @@ unfolding header_bytes
 length_header = refl
 
 pub capture_again : (rs : List Stamped) → All Fits rs → IsCapture (capture_bytes rs) rs 0
-capture_again rs fits = record { header = header_again (flat_map record_bytes rs); rest = []; body = subst (λ b. AreRecords b rs []) (sym (drop_at header_bytes (flat_map record_bytes rs) 24 length_header)) (records_again rs (recursion_from_All Fits rs fits)); ends = inl (omega arith); count = refl }
+capture_again rs fits = record { encoding = written; header = header_again (flat_map record_bytes rs); rest = []; body = subst (λ b. AreRecords written b rs []) (sym (drop_at header_bytes (flat_map record_bytes rs) 24 length_header)) (records_again rs (recursion_from_All Fits rs fits)); ends = inl (omega arith); count = refl }
 
 -- one record more was written
 pub more_written : (rs : List Stamped) (i : ℕ) (r : Stamped) (out new : List ℕ) → i < length rs → r ≡ get_or rs i r → out ≡ capture_bytes (take i rs) → new ≡ out ++ record_bytes r → new ≡ capture_bytes (take (i + 1) rs)

@@ -1,7 +1,16 @@
 //! The numbers of the classic pcap format: where the fields of its headers stand, in bytes, and what they hold.
 
-/// The magic number of little-endian captures in microseconds, as its bytes stand in the file. Source: pcap.
-pub const MAGIC: [u8; 4] = [0xd4, 0xc3, 0xb2, 0xa1];
+/// The magic number of little-endian captures in microseconds, its four bytes read big-endian. Source: pcap.
+pub const MAGIC_LITTLE_MICROS: u32 = 0xd4c3_b2a1;
+/// The magic number of big-endian captures in microseconds. Source: pcap.
+pub const MAGIC_BIG_MICROS: u32 = 0xa1b2_c3d4;
+/// The magic number of little-endian captures in nanoseconds, its four bytes read big-endian. Source: pcap.
+pub const MAGIC_LITTLE_NANOS: u32 = 0x4d3c_b2a1;
+/// The magic number of big-endian captures in nanoseconds. Source: pcap.
+pub const MAGIC_BIG_NANOS: u32 = 0xa1b2_3c4d;
+
+/// Nanoseconds in a microsecond.
+pub const NANOS_PER_MICRO: u32 = 1_000;
 
 /// The version is 2.4. Source: pcap.
 pub const VERSION_MAJOR: u16 = 2;
@@ -11,7 +20,9 @@ pub const VERSION_MINOR: u16 = 4;
 /// The link type of Ethernet. Source: pcap's LINKTYPE_ETHERNET.
 pub const LINK_ETHERNET: u32 = 1;
 
-/// Where the magic number ends, and the version's first number begins in the file header.
+/// Where the magic number stands in the file header.
+pub const MAGIC_OFFSET: usize = 0;
+/// Where the version's first number stands in the file header.
 pub const MAJOR_OFFSET: usize = 4;
 /// Where the version's second number stands in the file header.
 pub const MINOR_OFFSET: usize = 6;
@@ -27,8 +38,8 @@ pub const FILE_HEADER: [u8; FILE_HEADER_SIZE] = [
 
 /// Where the seconds stand in a record's header.
 pub const SECONDS_OFFSET: usize = 0;
-/// Where the microseconds stand in a record's header.
-pub const MICROS_OFFSET: usize = 4;
+/// Where the fraction of a second stands in a record's header.
+pub const FRACTION_OFFSET: usize = 4;
 /// Where the captured length stands in a record's header, with the original length behind it.
 pub const CAPTURED_OFFSET: usize = 8;
 /// The length of a record's header.

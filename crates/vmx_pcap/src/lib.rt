@@ -1,12 +1,15 @@
-//! Captures in the classic pcap format: little-endian, microseconds, version 2.4, link type Ethernet.
+//! Captures in the classic pcap format: version 2.4, link type Ethernet, in either byte order, stamped in microseconds or
+//! nanoseconds.
 //!
-//! `read` gives the whole records of a capture and the length of a cut last one, or refuses the bytes with a
-//! cause that they show. `write` gives the capture of records, which `read` gives back.
+//! `read` gives the whole records of a capture and the length of a cut last one, or answers the first check that fails.
+//! `write` gives the capture of records, little-endian and in microseconds, which `read` gives back.
 #![tactic(auto)]
 
+mod encoding;
 mod fault;
 mod fields;
 mod format;
+mod kinds;
 mod reader;
 mod records;
 mod writer;

@@ -1,40 +1,44 @@
 //! Reading a capture. A record counts where all its bytes are there; what stands after the last whole record and is
 //! shorter than the record that it begins is the tail. Each frame is copied once, into memory of just its length.
 
-ghost use Rattle.std.specs.Prelude.{◌≡◌, ◌≤◌, ◌+◌, ℕ, true, false, Result, length, IfOk, IfErr};
-ghost use Rattle.vmx_pcap.specs.Capture.{IsHeader, IsWhole, IsTail, AreRecords, record_at, after_record, captured_length};
-ghost use Rattle.vmx_pcap.specs.Faults.{HasBodyFault, Reads, OneOf};
+ghost use Rattle.std.specs.Prelude.{◌≡◌, ◌⊎◌, ◌≤◌, length, IfOk, IfErr};
+ghost use Rattle.vmx_pcap.specs.Capture.{IsWhole, IsTail, IsCapture, AreRecords, record_at, after_record, captured_length};
+ghost use Rattle.vmx_pcap.specs.Faults.{Reads, Answers, fault_at, record_fault};
 ghost use Rattle.vmx_pcap.specs.Front.{IsFront};
 
+use crate::encoding::encoding_of;
 use crate::fault::CaptureFault;
-use crate::fields::{u16_field, u32_field};
+use crate::fields::{micros_of, u16_field, u32_field};
 use crate::format::{
-    CAPTURED_OFFSET, FILE_HEADER_SIZE, LINK_ETHERNET, LINK_OFFSET, MAGIC, MAJOR_OFFSET,
-    MAX_CAPTURE, MAX_CAPTURED, MICROS_OFFSET, MINOR_OFFSET, RECORD_HEADER_SIZE, SECONDS_OFFSET,
+    CAPTURED_OFFSET, FILE_HEADER_SIZE, FRACTION_OFFSET, LINK_ETHERNET, LINK_OFFSET, MAGIC_OFFSET,
+    MAJOR_OFFSET, MAX_CAPTURE, MAX_CAPTURED, MINOR_OFFSET, RECORD_HEADER_SIZE, SECONDS_OFFSET,
     VERSION_MAJOR, VERSION_MINOR,
 };
+use crate::kinds::{Encoding, Endian};
 use crate::records::{Capture, Stamped};
 use std::alloc::{AllocError, Global};
 use vmx_io::{Bytes, List};
 
 /// Reads a capture of at most `most` records.
 ///
-/// The caller keeps the file within 67,108,864 bytes (`MAX_CAPTURE`). `Header` comes exactly where fewer than 24 bytes are there,
-/// and `Form` exactly where 24 are there and the magic number is not that of little-endian microseconds, the version
-/// is not 2.4, the link type is not Ethernet, a captured length is above 262,144, or another whole record follows
-/// after `most`. A last record that is cut is no fault: its bytes are the tail.
-#[tactic(auto, using(crate::specs::Unique::reads_one))]
+/// The caller keeps the file within 67,108,864 bytes (`MAX_CAPTURE`). The checks are made in this order, and the first that
+/// fails is the answer: `Header` below 24 bytes; `Magic`; `Version` where it is not 2.4; `Link` where it is not Ethernet; then
+/// record by record `Long` where a record's header is there and its captured length is above 262,144 bytes, and `Many` where
+/// another whole record follows after `most`. A last record that is cut is no fault: its bytes are the tail.
+#[tactic(auto, using(crate::specs::Unique::fault_answers))]
 pub fn read(alloc: Global, bytes: &[u8], most: u32) -> Result<Capture, CaptureFault>
     requires size { length bytes.now ≤ MAX_CAPTURE }
     // What the answer says of the bytes.
     ensures reads { Reads result bytes.now most }
-    // No other answer says something true of them, but want of memory.
-    ensures unique { (other : Result Capture CaptureFault) → Reads other bytes.now most → OneOf other result }
+    // A fault is answered exactly where it is the first check that fails.
+    ensures fault { (e : CaptureFault) → fault_at bytes.now most ≡ Some e → Answers result (Err e) }
+    // A capture within `most` records is read as just that.
+    ensures capture { (c : Capture) → IsCapture bytes.now c.records c.tail → length c.records ≤ most → Answers result (Ok c) }
 {
     read_file(alloc, bytes, most)
 }
 
-#[tactic(auto, using(crate::proofs::Bodies::capture_of, crate::proofs::Bodies::body_fault))]
+#[tactic(auto, using(crate::proofs::Bodies::capture_of), unfolding(crate::specs::Faults::fault_at))]
 fn read_file(alloc: Global, bytes: &[u8], most: u32) -> Result<Capture, CaptureFault>
     requires size { length bytes.now ≤ MAX_CAPTURE }
     ensures reads { Reads result bytes.now most }
@@ -44,11 +48,21 @@ fn read_file(alloc: Global, bytes: &[u8], most: u32) -> Result<Capture, CaptureF
             len: bytes.len() as u32,
         });
     }
-    if !is_header(bytes) {
-        return Err(CaptureFault::Form);
+    let magic = u32_field(Endian::Big, bytes, MAGIC_OFFSET);
+    let Some(encoding) = encoding_of(magic) else {
+        return Err(CaptureFault::Magic { found: magic });
+    };
+    let major = u16_field(encoding.endian, bytes, MAJOR_OFFSET);
+    let minor = u16_field(encoding.endian, bytes, MINOR_OFFSET);
+    if major != VERSION_MAJOR || minor != VERSION_MINOR {
+        return Err(CaptureFault::Version { major, minor });
+    }
+    let link = u32_field(encoding.endian, bytes, LINK_OFFSET);
+    if link != LINK_ETHERNET {
+        return Err(CaptureFault::Link { found: link });
     }
     let (_, body) = bytes.split_at(FILE_HEADER_SIZE);
-    match read_records(alloc, body, most) {
+    match read_records(alloc, encoding, body, most) {
         Ok((records, tail)) => Ok(Capture {
             records: List::of(records),
             tail: tail.len() as u32,
@@ -57,44 +71,36 @@ fn read_file(alloc: Global, bytes: &[u8], most: u32) -> Result<Capture, CaptureF
     }
 }
 
-/// Whether the bytes begin with the header of a capture that is read.
-fn is_header(bytes: &[u8]) -> bool
-    requires size { FILE_HEADER_SIZE ≤ length bytes.now }
-    ensures yes { result ≡ true → IsHeader bytes.now }
-    ensures no { result ≡ false → IsHeader bytes.now → ⊥ }
-{
-    bytes[..MAJOR_OFFSET] == MAGIC[..]
-        && u16_field(bytes, MAJOR_OFFSET) == VERSION_MAJOR
-        && u16_field(bytes, MINOR_OFFSET) == VERSION_MINOR
-        && u32_field(bytes, LINK_OFFSET) == LINK_ETHERNET
-}
-
 /// The whole records that the bytes begin with, and the tail after them.
-#[tactic(auto, using(crate::proofs::Bodies::records_push))]
+#[tactic(auto, using(crate::proofs::Bodies::records_push, crate::specs::Unique::many_fault))]
 fn read_records(
     alloc: Global,
+    encoding: Encoding,
     bytes: &[u8],
     most: u32,
 ) -> Result<(Vec<Stamped>, &[u8]), CaptureFault>
-    ensures found { IfOk result (λ x. AreRecords bytes.now x.0.items x.1.now × IsTail x.1.now × (length x.0.items ≤ most)) }
-    ensures fault { IfErr result (λ e. HasBodyFault e bytes.now most) }
+    ensures found { IfOk result (λ x. AreRecords encoding bytes.now x.0.items x.1.now × IsTail encoding x.1.now × (length x.0.items ≤ most)) }
+    ensures fault { IfErr result (λ e. (e ≡ CaptureFault.Memory) ⊎ (record_fault encoding 0 most bytes.now ≡ Some e)) }
 {
     let mut records = Vec::new(alloc);
     let mut rest = bytes;
-    for _ in 0..most {
-        match front_of(rest) {
+    for index in 0..most {
+        match front_of(encoding, rest) {
             Front::Tail => return Ok((records, rest)),
-            Front::Long => return Err(CaptureFault::Form),
+            Front::Long(found) => return Err(CaptureFault::Long { index, found }),
             Front::Whole(len) => {
-                let record = record_of(alloc, rest, len).map_err(|_| CaptureFault::Memory)?;
+                let record = record_of(alloc, encoding, rest, len).map_err(
+                    |_| CaptureFault::Memory,
+                )?;
                 records.push(record).map_err(|_| CaptureFault::Memory)?;
-                rest = rest_of(rest, len);
+                rest = rest_of(encoding, rest, len);
             }
         }
     }
-    match front_of(rest) {
+    match front_of(encoding, rest) {
         Front::Tail => Ok((records, rest)),
-        Front::Long | Front::Whole(_) => Err(CaptureFault::Form),
+        Front::Long(found) => Err(CaptureFault::Long { index: most, found }),
+        Front::Whole(_) => Err(CaptureFault::Many { index: most }),
     }
 }
 
@@ -104,19 +110,19 @@ enum Front {
     Whole(usize),
     /// A tail, which no whole record follows.
     Tail,
-    /// A record whose captured length is above the limit.
-    Long,
+    /// A record whose captured length, which this is, is above the limit.
+    Long(u32),
 }
 
-fn front_of(bytes: &[u8]) -> Front
-    ensures front { IsFront result bytes.now }
+fn front_of(encoding: Encoding, bytes: &[u8]) -> Front
+    ensures front { IsFront encoding result bytes.now }
 {
     if bytes.len() < RECORD_HEADER_SIZE {
         return Front::Tail;
     }
-    let captured = u32_field(bytes, CAPTURED_OFFSET);
+    let captured = u32_field(encoding.endian, bytes, CAPTURED_OFFSET);
     if captured > MAX_CAPTURED {
-        return Front::Long;
+        return Front::Long(captured);
     }
     let len = captured as usize;
     if bytes.len() < RECORD_HEADER_SIZE + len {
@@ -126,23 +132,29 @@ fn front_of(bytes: &[u8]) -> Front
 }
 
 /// The record that bytes begin with.
-fn record_of(alloc: Global, bytes: &[u8], len: usize) -> Result<Stamped, AllocError>
-    requires whole { IsWhole bytes.now }
-    requires len { len ≡ captured_length bytes.now }
-    ensures stamped { IfOk result (λ r. r ≡ record_at bytes.now) }
+fn record_of(
+    alloc: Global,
+    encoding: Encoding,
+    bytes: &[u8],
+    len: usize,
+) -> Result<Stamped, AllocError>
+    requires whole { IsWhole encoding bytes.now }
+    requires len { len ≡ captured_length encoding bytes.now }
+    ensures stamped { IfOk result (λ r. r ≡ record_at encoding bytes.now) }
 {
+    let fraction = u32_field(encoding.endian, bytes, FRACTION_OFFSET);
     Ok(Stamped {
-        seconds: u32_field(bytes, SECONDS_OFFSET),
-        micros: u32_field(bytes, MICROS_OFFSET),
+        seconds: u32_field(encoding.endian, bytes, SECONDS_OFFSET),
+        micros: micros_of(encoding.unit, fraction),
         frame: Bytes::from_slice(alloc, &bytes[RECORD_HEADER_SIZE..RECORD_HEADER_SIZE + len])?,
     })
 }
 
 /// The bytes after the record that bytes begin with.
-fn rest_of(bytes: &[u8], len: usize) -> &[u8]
-    requires whole { IsWhole bytes.now }
-    requires len { len ≡ captured_length bytes.now }
-    ensures rest { result.now ≡ after_record bytes.now }
+fn rest_of(encoding: Encoding, bytes: &[u8], len: usize) -> &[u8]
+    requires whole { IsWhole encoding bytes.now }
+    requires len { len ≡ captured_length encoding bytes.now }
+    ensures rest { result.now ≡ after_record encoding bytes.now }
 {
     &bytes[RECORD_HEADER_SIZE + len..]
 }

@@ -28,23 +28,16 @@ fn laid_out(alloc: Global, records: &[(u32, usize)]) -> Result<Vec<u8>, AllocErr
     Ok(out)
 }
 
-/// What the reader answered, with the number of records.
-#[derive(Clone, Copy, Debug, PartialEq, Eq)]
-enum Answer {
-    Read(usize, u32),
-    Header(u32),
-    Form,
-    Memory,
-}
-
-fn answer_of(rt: &impl Abort, alloc: Global, bytes: &[u8], most: u32) -> Answer {
+/// What the reader answered, with the number of records and the tail.
+fn answer_of(
+    rt: &impl Abort,
+    alloc: Global,
+    bytes: &[u8],
+    most: u32,
+) -> Result<(usize, u32), CaptureFault> {
     assert!(rt; bytes.len() <= MAX_CAPTURE);
-    match read(alloc, bytes, most) {
-        Ok(capture) => Answer::Read(capture.records.len(), capture.tail),
-        Err(CaptureFault::Header { len }) => Answer::Header(len),
-        Err(CaptureFault::Form) => Answer::Form,
-        Err(CaptureFault::Memory) => Answer::Memory,
-    }
+    let capture = read(alloc, bytes, most)?;
+    Ok((capture.records.len(), capture.tail))
 }
 
 /// Writes over the bytes from a place on, as far as they are there.
@@ -58,7 +51,7 @@ fn patch(bytes: &mut [u8], place: usize, new: &[u8]) {
 fn check_patches(
     rt: &impl Abort,
     alloc: Global,
-    cases: &[(usize, [u8; 4], Answer)],
+    cases: &[(usize, [u8; 4], Result<(usize, u32), CaptureFault>)],
 ) -> Result<(), AllocError> {
     for (place, new, want) in cases {
         let mut bytes = laid_out(alloc, &[(60, 60)])?;
@@ -75,18 +68,162 @@ fn takes_or_refuses_a_header(rt: HostRuntime) -> Result<(), Fail> {
         &rt,
         rt.alloc(),
         &[
-            (0, [0xd4, 0xc3, 0xb2, 0xa1], Answer::Read(1, 0)),
-            (0, [0xd4, 0xc3, 0xb2, 0xa0], Answer::Form),
-            (0, [0xa1, 0xb2, 0xc3, 0xd4], Answer::Form),
-            (0, [0x4d, 0x3c, 0xb2, 0xa1], Answer::Form),
-            (4, [3, 0, 4, 0], Answer::Form),
-            (4, [2, 0, 3, 0], Answer::Form),
-            (8, [1, 2, 3, 4], Answer::Read(1, 0)),
-            (16, [0, 0, 4, 0], Answer::Read(1, 0)),
-            (20, [113, 0, 0, 0], Answer::Form),
-            (20, [1, 0, 0, 0x24], Answer::Form),
+            (0, [0xd4, 0xc3, 0xb2, 0xa1], Ok((1, 0))),
+            (0, [0x4d, 0x3c, 0xb2, 0xa1], Ok((1, 0))),
+            (
+                0,
+                [0xd4, 0xc3, 0xb2, 0xa0],
+                Err(CaptureFault::Magic { found: 0xd4c3_b2a0 }),
+            ),
+            (
+                0,
+                [0xa1, 0xb2, 0xcd, 0x34],
+                Err(CaptureFault::Magic { found: 0xa1b2_cd34 }),
+            ),
+            (
+                0,
+                [0x0a, 0x0d, 0x0d, 0x0a],
+                Err(CaptureFault::Magic { found: 0x0a0d_0d0a }),
+            ),
+            (
+                0,
+                [0xa1, 0xb2, 0xc3, 0xd4],
+                Err(CaptureFault::Version {
+                    major: 512,
+                    minor: 1024,
+                }),
+            ),
+            (
+                0,
+                [0xa1, 0xb2, 0x3c, 0x4d],
+                Err(CaptureFault::Version {
+                    major: 512,
+                    minor: 1024,
+                }),
+            ),
+            (
+                4,
+                [3, 0, 4, 0],
+                Err(CaptureFault::Version { major: 3, minor: 4 }),
+            ),
+            (
+                4,
+                [2, 0, 3, 0],
+                Err(CaptureFault::Version { major: 2, minor: 3 }),
+            ),
+            (8, [1, 2, 3, 4], Ok((1, 0))),
+            (16, [0, 0, 4, 0], Ok((1, 0))),
+            (20, [113, 0, 0, 0], Err(CaptureFault::Link { found: 113 })),
+            (
+                20,
+                [1, 0, 0, 0x24],
+                Err(CaptureFault::Link { found: 0x2400_0001 }),
+            ),
+            (
+                32,
+                [1, 0, 4, 0],
+                Err(CaptureFault::Long {
+                    index: 0,
+                    found: 262_145,
+                }),
+            ),
         ],
     )?;
+    Ok(())
+}
+
+/// A capture of one record of 60 bytes, patched at two places, is refused with this fault.
+fn check_two_faults(
+    rt: &impl Abort,
+    alloc: Global,
+    cases: &[([usize; 2], [[u8; 4]; 2], CaptureFault)],
+) -> Result<(), AllocError> {
+    for (places, patches, want) in cases {
+        let mut bytes = laid_out(alloc, &[(60, 60)])?;
+        patch(&mut bytes, places[0], &patches[0]);
+        patch(&mut bytes, places[1], &patches[1]);
+        let got = answer_of(rt, alloc, &bytes, 0);
+        assert_eq!(rt; got, Err(*want), "with {patches:?} at {places:?}");
+    }
+    Ok(())
+}
+
+#[test]
+fn answers_the_first_of_two_faults(rt: HostRuntime) -> Result<(), Fail> {
+    check_two_faults(
+        &rt,
+        rt.alloc(),
+        &[
+            (
+                [0, 4],
+                [[0; 4], [3, 0, 4, 0]],
+                CaptureFault::Magic { found: 0 },
+            ),
+            (
+                [4, 20],
+                [[2, 0, 5, 0], [113, 0, 0, 0]],
+                CaptureFault::Version { major: 2, minor: 5 },
+            ),
+            (
+                [20, 32],
+                [[113, 0, 0, 0], [1, 0, 4, 0]],
+                CaptureFault::Link { found: 113 },
+            ),
+            (
+                [32, 8],
+                [[1, 0, 4, 0], [0; 4]],
+                CaptureFault::Long {
+                    index: 0,
+                    found: 262_145,
+                },
+            ),
+            ([8, 8], [[0; 4], [0; 4]], CaptureFault::Many { index: 0 }),
+        ],
+    )?;
+    Ok(())
+}
+
+/// One record of two bytes, in the byte order of the magic number: 5 seconds, a fraction, captured and original length 2.
+fn one_record(magic: [u8; 4], fraction: u32) -> [u8; 42] {
+    let big = magic[0] == 0xa1;
+    let ends = |n: u32| if big {
+        n.to_be_bytes()
+    } else {
+        n.to_le_bytes()
+    };
+    let mut out = [0; 42];
+    patch(&mut out, 0, &magic);
+    patch(&mut out, 4, if big { &[0, 2, 0, 4] } else { &[2, 0, 4, 0] });
+    patch(&mut out, 20, &ends(1));
+    patch(&mut out, 24, &ends(5));
+    patch(&mut out, 28, &ends(fraction));
+    patch(&mut out, 32, &ends(2));
+    patch(&mut out, 36, &ends(2));
+    patch(&mut out, 40, &[0xaa, 0xbb]);
+    out
+}
+
+/// Magic number, fraction as it stands, and the microseconds of the record.
+const FRACTIONS: [([u8; 4], u32, u32); 6] = [
+    ([0xd4, 0xc3, 0xb2, 0xa1], 1_999, 1_999),
+    ([0xa1, 0xb2, 0xc3, 0xd4], 1_999, 1_999),
+    ([0x4d, 0x3c, 0xb2, 0xa1], 1_999, 1),
+    ([0xa1, 0xb2, 0x3c, 0x4d], 1_999, 1),
+    ([0xa1, 0xb2, 0x3c, 0x4d], 999, 0),
+    ([0x4d, 0x3c, 0xb2, 0xa1], 999_999_999, 999_999),
+];
+
+#[test]
+fn reads_each_byte_order_and_unit(rt: HostRuntime) -> Result<(), Fail> {
+    for (magic, fraction, micros) in FRACTIONS {
+        let capture = read(rt.alloc(), &one_record(magic, fraction), 1)?;
+        let [record] = capture.records.as_slice() else {
+            return Err(Fail::from("one record"));
+        };
+        assert_eq!(&rt; record.seconds, 5, "{magic:?}");
+        assert_eq!(&rt; record.micros, micros, "{magic:?}");
+        assert_eq!(&rt; record.frame.as_slice(), [0xaa, 0xbb].as_slice());
+    }
     Ok(())
 }
 
@@ -94,7 +231,12 @@ fn takes_or_refuses_a_header(rt: HostRuntime) -> Result<(), Fail> {
 fn check_records(
     rt: &impl Abort,
     alloc: Global,
-    cases: &[([(u32, usize); 2], usize, u32, Answer)],
+    cases: &[(
+        [(u32, usize); 2],
+        usize,
+        u32,
+        Result<(usize, u32), CaptureFault>,
+    )],
 ) -> Result<(), AllocError> {
     for (records, len, most, want) in cases {
         let mut bytes = laid_out(alloc, records)?;
@@ -114,18 +256,26 @@ fn reads_whole_records_and_a_tail(rt: HostRuntime) -> Result<(), Fail> {
         &rt,
         rt.alloc(),
         &[
-            (WHOLE, 0, 9, Answer::Header(0)),
-            (WHOLE, 23, 9, Answer::Header(23)),
-            (WHOLE, 24, 9, Answer::Read(0, 0)),
-            (WHOLE, 99, 9, Answer::Read(0, 75)),
-            (WHOLE, 146, 9, Answer::Read(1, 46)),
-            (WHOLE, 176, 2, Answer::Read(2, 0)),
-            (WHOLE, 176, 1, Answer::Form),
-            (WHOLE, 100, 0, Answer::Form),
-            (WHOLE, 175, 1, Answer::Read(1, 75)),
-            ([(0, 0), (0, 0)], 99, 9, Answer::Read(2, 0)),
-            ([(60, 60), (262_144, 0)], 116, 9, Answer::Read(1, 16)),
-            ([(60, 60), (262_145, 0)], 116, 1, Answer::Form),
+            (WHOLE, 0, 9, Err(CaptureFault::Header { len: 0 })),
+            (WHOLE, 23, 9, Err(CaptureFault::Header { len: 23 })),
+            (WHOLE, 24, 9, Ok((0, 0))),
+            (WHOLE, 99, 9, Ok((0, 75))),
+            (WHOLE, 146, 9, Ok((1, 46))),
+            (WHOLE, 176, 2, Ok((2, 0))),
+            (WHOLE, 176, 1, Err(CaptureFault::Many { index: 1 })),
+            (WHOLE, 100, 0, Err(CaptureFault::Many { index: 0 })),
+            (WHOLE, 175, 1, Ok((1, 75))),
+            ([(0, 0), (0, 0)], 99, 9, Ok((2, 0))),
+            ([(60, 60), (262_144, 0)], 116, 9, Ok((1, 16))),
+            (
+                [(60, 60), (262_145, 0)],
+                116,
+                1,
+                Err(CaptureFault::Long {
+                    index: 1,
+                    found: 262_145,
+                }),
+            ),
         ],
     )?;
     Ok(())
