@@ -1,10 +1,5 @@
-//! A device and a driver as small as they can be, over the registers, and the tests of the registers. The machine shows that the
-//! contracts of the two sides are enough for both; no other crate stands on it.
+//! The tests of commands over the registers. No other crate stands on this one.
 #![tactic(auto)]
-
-mod machine;
-
-pub use machine::{Counted, SmallMachine, serve, take_back, update_with};
 
 #[cfg(test)]
 mod tests;

@@ -6,7 +6,7 @@ use Rattle.vmx_regs.specs.Turns.{command_of, answer_of, held_after, held_after_t
 use Rattle.vmx_regs.specs.Rule.{turn_of}
 use Rattle.vmx_regs.specs.Lawful.{held_snoc}
 use Rattle.vmx_regs.specs.Ends.{device_view, replying}
-use Rattle.vmx_regs_tests.proofs.machine.serve.Goals as goal
+use Rattle.vmx_small_machine.proofs.machine.serve.Goals as goal
 
 pub returns-in-Command-clause-tracks : goal.returns-in-Command-clause-tracks
 returns-in-Command-clause-tracks g c =

@@ -6,7 +6,7 @@ ghost use Rattle.vmx_device_state.specs.DeviceState.{counts as counts_of_view};
 ghost use Rattle.vmx_device_state.specs.Plain.{state_of};
 ghost use Rattle.vmx_regs.specs.Turns.{IsWhole, held_as, held_after, command_of, answer_of};
 ghost use Rattle.vmx_regs.specs.Ends.{driver_key, driver_view, device_view, device_masks, device_key};
-ghost use Rattle.vmx_regs_tests.specs.Machine.{machine, Applied, Tracks, IsQuiesce};
+ghost use Rattle.vmx_small_machine.specs.Machine.{machine, Applied, Tracks, IsQuiesce};
 
 use vmx_device_state::{EndCounts, Order, PlainDevice};
 use vmx_io::Handed;
