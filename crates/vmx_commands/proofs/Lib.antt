@@ -1,5 +1,1 @@
-pub mod Tallies
-pub mod Activations
-pub mod NoValue
-pub mod InUse
 pub mod Served

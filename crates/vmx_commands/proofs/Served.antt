@@ -12,7 +12,7 @@ use Rattle.vmx_regs.specs.Turns.{command_of, answer_of, IsCommand, IsReply}
 use Rattle.vmx_regs.specs.Ends.{replying, Owes}
 use Rattle.vmx_regs.specs.declared.bag.Bag.{Bag}
 use Rattle.vmx_regs.specs.declared.known.Calls.{Calls}
-use Rattle.vmx_commands.specs.Views.{EndsView, MachineView, handed_of, ends_of}
+use Rattle.vmx_machine_state.specs.Views.{EndsView, MachineView, handed_of, ends_of}
 use Rattle.vmx_commands.specs.Replies.{Applied, Tracks, reply_is_owed}
 use Rattle.vmx_commands.specs.Serving.{AnswersCommand}
 

@@ -12,11 +12,11 @@ use Rattle.vmx_regs.specs.Rule.{turn_of}
 use Rattle.vmx_regs.specs.Lawful.{held_snoc}
 use Rattle.vmx_regs.specs.declared.bag.Bag.{Bag}
 use Rattle.vmx_regs.specs.declared.known.Calls.{Calls}
-use Rattle.vmx_commands.specs.Views.{EndsView, MachineView, Stays, handed_of, counts_in, state_of, ends_of}
+use Rattle.vmx_machine_state.specs.Views.{EndsView, MachineView, Stays, handed_of, counts_in, state_of, ends_of}
 use Rattle.vmx_device_state.specs.Answers.{answer_to}
-use Rattle.vmx_commands.specs.Ends.{ends_held, ends_back}
-use Rattle.vmx_commands.specs.Images.{image_back}
-use Rattle.vmx_commands.specs.Stopped.{errors_after}
+use Rattle.vmx_machine_state.specs.Ends.{ends_held, ends_back}
+use Rattle.vmx_machine_state.specs.Images.{image_back}
+use Rattle.vmx_machine_state.specs.Stopped.{errors_after}
 
 -- ends, as they are held
 abbrev pub held_in : Option EndsView → Option Held

@@ -5,7 +5,7 @@ use Rattle.vmx_device_state.specs.declared.turn.AnswerView.{AnswerView}
 use Rattle.vmx_regs.specs.declared.known.Calls.{Calls}
 use Rattle.vmx_regs.specs.Rule.{looking, word_of, last_number, DeviceAgrees}
 use Rattle.vmx_regs.specs.Turns.{IsCommand, IsReply}
-use Rattle.vmx_commands.specs.Views.{EndsView, MachineView, handed_of}
+use Rattle.vmx_machine_state.specs.Views.{EndsView, MachineView, handed_of}
 use Rattle.vmx_commands.specs.Replies.{Applied}
 
 -- a command, and an answer, with what their bags hold

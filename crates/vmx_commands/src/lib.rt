@@ -1,22 +1,16 @@
-//! The command machine of a device, and its statistics. It answers each command by one table, keeps the setup and the queue ends
-//! between an activation and the next quiesce or reset, counts frames by queue, and keeps the errors of stopped queues until a reset.
+//! The command machine of a device behind its registers: one look at the command register, and the answer to the command that it finds.
+//! The machine itself (vmx_machine) and its parts (vmx_machine_state) are passed on under this crate's name, their specs too.
 //!
-//! Contracts see a machine as a record of plain data (`specs/Views.antt`). What it answers is a function of its state, the
-//! command and the bag (vmx_device_state's `Answers`); what becomes of the ends and of the image stands in `specs/Ends.antt` and
-//! `specs/Images.antt`, and what is counted in `specs/Statistics.antt`. No call takes memory.
+//! What a look does is a relation between what the registers knew and the machine before and after (`specs/Serving.antt`). No call
+//! takes memory.
 #![tactic(auto)]
 
-mod errors;
-mod gets;
-mod images;
-mod machine;
 mod serving;
-mod statistics;
 
-pub use errors::{ADDRESS_ERROR, CHAIN_ERROR, FIELD_ERROR, OFFLOAD_ERROR, SIZE_ERROR};
-pub use machine::{Machine, State};
 pub use serving::{Answered, answer_next};
-pub use statistics::{
-    BROADCAST_FRAMES, Count, MULTICAST_FRAMES, RX_ERRORS, RX_NO_BUFFERS, TX_DISCARDS, TX_ERRORS,
+pub use vmx_machine::Machine;
+pub use vmx_machine_state::{
+    ADDRESS_ERROR, BROADCAST_FRAMES, CHAIN_ERROR, Count, FIELD_ERROR, MULTICAST_FRAMES,
+    OFFLOAD_ERROR, RX_ERRORS, RX_NO_BUFFERS, SIZE_ERROR, State, TX_DISCARDS, TX_ERRORS,
     UNICAST_FRAMES,
 };

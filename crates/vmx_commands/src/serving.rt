@@ -3,12 +3,12 @@
 ghost use Rattle.std.specs.Prelude.{◌≡◌, ◌^◌, ◌<◌, length, None, option_map, MatchOption};
 ghost use Rattle.vmx_device_state.specs.Deals.{IsWhole};
 ghost use Rattle.vmx_regs.specs.Ends.{device_view, device_masks, device_key};
-ghost use Rattle.vmx_commands.specs.Views.{handed_of, ends_of};
+ghost use Rattle.vmx_machine_state.specs.Views.{handed_of, ends_of};
 ghost use Rattle.vmx_commands.specs.Replies.{Tracks};
 ghost use Rattle.vmx_commands.specs.Serving.{AnswersCommand, FindsNoCommand};
 
-use crate::Machine;
 use vmx_ends::{Ends, Fabric};
+use vmx_machine::Machine;
 use vmx_regs::{DeviceRegs, Poll};
 
 /// A command's number, and the value that it was answered.

@@ -1,4 +1,5 @@
-//! The tests of the tables of the command machine, over the queue ends of vmx_lists. No other crate stands on this one.
+//! The tests of the tables of the command machine, generic in the fabric and run over the queue ends of vmx_lists. No other crate stands
+//! on this one.
 #![tactic(auto)]
 
 #[cfg(test)]

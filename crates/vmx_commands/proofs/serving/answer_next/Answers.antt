@@ -1,5 +1,5 @@
 use Rattle.vmx_regs.specs.Ends.{device_view}
-use Rattle.vmx_commands.specs.Views.{ends_view}
+use Rattle.vmx_machine_state.specs.Views.{ends_view}
 use Rattle.vmx_commands.specs.Replies.{reply_is_owed, tracks_on}
 use Rattle.vmx_commands.proofs.Served.{was_answered}
 use Rattle.vmx_commands.proofs.serving.answer_next.Goals as goal

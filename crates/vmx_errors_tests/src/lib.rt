@@ -1,0 +1,6 @@
+//! The test of errors of stopped queues, generic in the fabric and run over the queue ends of vmx_lists. No other crate stands on this
+//! one.
+#![tactic(auto)]
+
+#[cfg(test)]
+mod tests;

@@ -1,0 +1,6 @@
+//! The test of the command machine behind registers, generic in the fabric and run over the queue ends of vmx_lists. No other crate
+//! stands on this one.
+#![tactic(auto)]
+
+#[cfg(test)]
+mod tests;
