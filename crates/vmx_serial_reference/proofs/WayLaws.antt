@@ -20,9 +20,9 @@ use Rattle.vmx_model.specs.Totals.{wiring, macs_of, sniffers_of}
 use Rattle.vmx_model.specs.Wire.{wire_form, targets}
 use Rattle.vmx_model.specs.Plan.{Captured, captured, verdict_on}
 use Rattle.vmx_model.specs.Serial.{Seat, World, at_number, noted, arrived, pushed_on, mac_of, reaches, spread, transmitted, sent_by, sends, acted, turn_of, turns, rounds}
-use Rattle.vmx_serial_reference.specs.Small.{IsSmall}
+use Rattle.vmx_serial_seats.specs.Small.{IsSmall}
 use Rattle.vmx_serial_reference.specs.Worlds.{IsOnTheWay}
-use Rattle.vmx_serial_reference.proofs.SmallLaws.{queues_in, small_more, small_deeds, small_noted, small_transmitted, small_arrived, kept_deeds, kept_arrived}
+use Rattle.vmx_serial_seats.proofs.SmallLaws.{queues_in, small_more, small_deeds, small_noted, small_transmitted, small_arrived, kept_deeds, kept_arrived}
 
 -- ------------------------------------------------------------ one guest of all
 

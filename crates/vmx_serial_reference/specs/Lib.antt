@@ -1,4 +1,2 @@
-pub mod Small
-pub mod Seats
+pub mod Early
 pub mod Worlds
-pub mod Fates

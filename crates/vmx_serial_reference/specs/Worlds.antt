@@ -1,16 +1,12 @@
 -- All guests and links of the plain program as the model has them.
 use Rattle.std.specs.Prelude.{◌≡◌, ℕ, ◌-◌, ◌^◌, [], map, All}
-use Rattle.vmx_ends.specs.declared.packet.Tag.{Tag}
 use Rattle.vmx_model.specs.declared.plan.Plan.{Plan}
-use Rattle.vmx_ends.specs.declared.frames.Sent.{Sent}
-use Rattle.vmx_model.specs.Totals.{wiring}
-use Rattle.vmx_model.specs.Wire.{wire_form, targets}
 use Rattle.vmx_model.specs.Serial as serial
 use Rattle.vmx_serial_reference.specs.declared.world.Carried.{Carried}
 use Rattle.vmx_serial_reference.specs.declared.world.Wire.{Wire}
 use Rattle.vmx_serial_reference.specs.declared.world.World.{World}
-use Rattle.vmx_serial_reference.specs.Seats.{seat_of}
-use Rattle.vmx_serial_reference.specs.Small.{IsSmall}
+use Rattle.vmx_serial_seats.specs.Seats.{seat_of}
+use Rattle.vmx_serial_seats.specs.Small.{IsSmall}
 
 -- a packet
 abbrev pub carried_of : Carried → serial.Carried
@@ -27,11 +23,6 @@ world_of w = record { seats = map seat_of w.seats; wires = map wire_of w.wires }
 -- a link that carried nothing
 abbrev pub empty_wire : ℕ → ℕ → serial.Wire
 empty_wire from to = record { from = from; to = to; pushed = []; pulled = [] }
-
--- a posted frame of a tag goes through its queue, and its wire form to its targets
-abbrev pub send_from : Plan → Tag → Sent → serial.World → serial.World
-send_from plan t posted w =
-    serial.spread plan t (wire_form posted) (targets (wiring plan.guests) t.guest (wire_form posted)) (record w { seats = serial.at_number t.guest (serial.transmitted t.activation t.queue posted) w.seats })
 
 -- each guest has its plan's number of receive queues, and no number is above k
 pub record IsOnTheWay (plan : Plan) (k : ℕ) (w : serial.World) : Type 0 where

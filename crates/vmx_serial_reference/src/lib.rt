@@ -2,12 +2,8 @@
 //! function does what one definition of the model says. No program stands on it: what other programs do is compared with it.
 #![tactic(auto)]
 
-mod copies;
 mod run;
-mod seat;
 mod world;
 
-pub use copies::fates;
 pub use run::serial_run;
-pub use seat::Seat;
-pub use world::{Carried, Wire, World};
+pub use world::{Carried, Wire, World, targets_of};

@@ -2,15 +2,15 @@
 ghost use Rattle.std.specs.Prelude.{◌≡◌, ◌≤◌, ◌<◌, ◌+◌, ◌++◌, [], ◌∷◌, nat_eq, if◌then◌else◌, length, map, max, OnOk, IfOk};
 ghost use Rattle.vmx_model.specs.Totals.{records_of};
 ghost use Rattle.vmx_model.specs.Serial.{turns, last_at as last_at_of, last_number as last_number_of, seats_from, start, wires_from, closed, serial_run as serial_run_of};
-ghost use Rattle.vmx_serial_reference.specs.Seats.{seat_of};
-ghost use Rattle.vmx_serial_reference.specs.Small.{AreEarly};
+ghost use Rattle.vmx_serial_seats.specs.Seats.{seat_of};
+ghost use Rattle.vmx_serial_reference.specs.Early.{AreEarly};
 ghost use Rattle.vmx_serial_reference.specs.Worlds.{wire_of, world_of, IsOnTheWay, MOST_OF_ROUND, empty_wire};
 
-use crate::seat::Seat;
 use crate::world::{Wire, World};
 use std::alloc::{AllocError, Global};
 use vmx_io::List;
 use vmx_model::{Action, GuestPlan, Plan};
+use vmx_serial_seats::Seat;
 use vmx_switch::MAX_PORTS;
 
 /// The serial run of a plan. It takes time that grows with the square of the plan, and worse: plans for it are small.

@@ -5,17 +5,18 @@ ghost use Rattle.vmx_model.specs.Wire.{targets as targets_by, wire_form as wire_
 ghost use Rattle.vmx_model.specs.Plan.{captured};
 ghost use Rattle.vmx_model.specs.Serial.{Seat as SeatValue, at_number, noted, arrived, transmitted, acted, where_it, is_wire, carried, pushed_on as pushed_on_of, reaches, spread as spread_of, sends, turn as turn_of};
 ghost use Rattle.vmx_serial_queues.specs.Queues.{marked};
-ghost use Rattle.vmx_serial_reference.specs.Seats.{seat_of};
-ghost use Rattle.vmx_serial_reference.specs.Small.{IsSmall, MOST};
-ghost use Rattle.vmx_serial_reference.specs.Worlds.{wire_of, world_of, send_from, IsOnTheWay};
+ghost use Rattle.vmx_serial_seats.specs.Seats.{seat_of};
+ghost use Rattle.vmx_serial_seats.specs.Small.{IsSmall, MOST};
+ghost use Rattle.vmx_model.specs.Turns.{send_from};
+ghost use Rattle.vmx_serial_reference.specs.Worlds.{wire_of, world_of, IsOnTheWay};
 
-use crate::seat::Seat;
 use std::alloc::{AllocError, Global};
 use vmx_ends::{MAX_FRAME, Tag, TxMark};
 use vmx_frame::{ADDRESS_LEN, HEADER_LEN};
 use vmx_io::{Bytes, List};
 use vmx_model::{Entry, GuestPlan, Plan, Sending, Way, verdict};
 use vmx_serial_queues::{mark_of, wire_form};
+use vmx_serial_seats::Seat;
 use vmx_switch::{MAX_PORTS, Table, Targets, targets};
 
 /// A packet.

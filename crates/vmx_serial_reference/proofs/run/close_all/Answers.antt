@@ -1,7 +1,7 @@
 use Rattle.std.proofs.Common.{map, arith, true}
 use Rattle.std.proofs.lemmas.List.{length-map}
 use Rattle.vmx_model.specs.Serial.{closed}
-use Rattle.vmx_serial_reference.specs.Seats.{seat_of}
+use Rattle.vmx_serial_seats.specs.Seats.{seat_of}
 use Rattle.vmx_serial_queues.proofs.Places.{changed_next, changed_length}
 use Rattle.vmx_serial_reference.proofs.run.close_all.Goals as goal
 

@@ -1,6 +1,6 @@
 use Rattle.std.proofs.Common.{map, true}
 use Rattle.vmx_model.specs.Serial.{closed}
-use Rattle.vmx_serial_reference.specs.Seats.{seat_of}
+use Rattle.vmx_serial_seats.specs.Seats.{seat_of}
 use Rattle.vmx_serial_queues.proofs.Places.{Changed}
 use Rattle.vmx_serial_reference.proofs.run.close_all.Given as goal
 

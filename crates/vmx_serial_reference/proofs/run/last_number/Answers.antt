@@ -1,6 +1,6 @@
 use Rattle.std.proofs.Common.{◌≡◌, ◌+◌, length, max, drop, arith, ap, sym, subst, ◌∙◌}
 use Rattle.vmx_model.specs.Serial.{last_at, last_number}
-use Rattle.vmx_serial_reference.specs.Small.{AreEarly}
+use Rattle.vmx_serial_reference.specs.Early.{AreEarly}
 use Rattle.vmx_serial_reference.proofs.Begins.{records_at, script_early, last_next}
 use Rattle.vmx_serial_reference.proofs.run.last_number.Goals as goal
 

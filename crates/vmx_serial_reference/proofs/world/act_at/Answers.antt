@@ -1,10 +1,10 @@
 use Rattle.std.proofs.Common.{◌<◌, ◌^◌, length, arith, ap, sym, ◌∙◌}
 use Rattle.vmx_io.specs.Views.{holds_at, viewed}
 use Rattle.vmx_model.specs.Serial.{acted}
-use Rattle.vmx_serial_reference.specs.Seats.{seat_of}
-use Rattle.vmx_serial_reference.specs.Small.{IsSmall}
+use Rattle.vmx_serial_seats.specs.Seats.{seat_of}
+use Rattle.vmx_serial_seats.specs.Small.{IsSmall}
 use Rattle.vmx_serial_queues.proofs.Places.{number_there, number_past}
-use Rattle.vmx_serial_reference.proofs.SmallLaws.{queues_in}
+use Rattle.vmx_serial_seats.proofs.SmallLaws.{queues_in}
 use Rattle.vmx_serial_reference.proofs.world.act_at.Goals as goal
 
 pub act-requires-clause-queues : goal.act-requires-clause-queues

@@ -1,8 +1,8 @@
 use Rattle.std.proofs.Common.{arith}
 use Rattle.vmx_io.specs.Views.{holds_at}
 use Rattle.vmx_model.specs.Serial.{arrived}
-use Rattle.vmx_serial_reference.specs.Seats.{seat_of}
-use Rattle.vmx_serial_reference.specs.Small.{IsSmall, MOST}
+use Rattle.vmx_serial_seats.specs.Seats.{seat_of}
+use Rattle.vmx_serial_seats.specs.Small.{IsSmall, MOST}
 use Rattle.vmx_serial_queues.proofs.Places.{number_there, number_past}
 use Rattle.vmx_serial_reference.proofs.world.arrive_at.Goals as goal
 

@@ -1,6 +1,6 @@
 use Rattle.std.proofs.Common.{arith}
 use Rattle.vmx_model.specs.Serial.{noted}
-use Rattle.vmx_serial_reference.specs.Seats.{seat_of}
+use Rattle.vmx_serial_seats.specs.Seats.{seat_of}
 use Rattle.vmx_serial_queues.proofs.Places.{number_there, number_past}
 use Rattle.vmx_serial_reference.proofs.world.note_at.Goals as goal
 

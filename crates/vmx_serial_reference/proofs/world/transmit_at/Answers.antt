@@ -1,7 +1,7 @@
 use Rattle.std.proofs.Common.{arith}
 use Rattle.vmx_model.specs.Serial.{transmitted}
 use Rattle.vmx_serial_queues.specs.Queues.{marked}
-use Rattle.vmx_serial_reference.specs.Seats.{seat_of}
+use Rattle.vmx_serial_seats.specs.Seats.{seat_of}
 use Rattle.vmx_serial_queues.proofs.Places.{number_there, number_past}
 use Rattle.vmx_serial_reference.proofs.world.transmit_at.Goals as goal
 

@@ -4,10 +4,10 @@ use Rattle.vmx_model.specs.declared.journal.Entry.TheVariants as entry
 use Rattle.vmx_model.specs.declared.journal.Way.TheVariants as way
 use Rattle.vmx_model.specs.Serial.{noted, pushed_on}
 use Rattle.vmx_serial_reference.specs.declared.world.Wire.{Wire}
-use Rattle.vmx_serial_reference.specs.Seats.{seat_of}
+use Rattle.vmx_serial_seats.specs.Seats.{seat_of}
 use Rattle.vmx_serial_reference.specs.Worlds.{wire_of, world_of}
-use Rattle.vmx_serial_reference.specs.Small.{IsSmall, MOST}
-use Rattle.vmx_serial_reference.proofs.SmallLaws.{small_noted}
+use Rattle.vmx_serial_seats.specs.Small.{IsSmall, MOST}
+use Rattle.vmx_serial_seats.proofs.SmallLaws.{small_noted}
 use Rattle.vmx_serial_reference.proofs.WayLaws.{at_small}
 use Rattle.vmx_serial_reference.proofs.Turns.{reach_whole, mac_there}
 use Rattle.vmx_serial_reference.proofs.world.World.reach.Goals as goal

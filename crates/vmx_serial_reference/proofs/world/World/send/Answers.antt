@@ -7,8 +7,10 @@ use Rattle.vmx_model.specs.declared.sending.Sending.TheVariants as sending
 use Rattle.vmx_ends.specs.declared.frames.Sent.{Sent}
 use Rattle.vmx_model.specs.Wire.{posted_form, wire_form}
 use Rattle.vmx_serial_queues.specs.Queues.{marked}
-use Rattle.vmx_serial_reference.specs.Worlds.{world_of, send_from}
-use Rattle.vmx_serial_reference.proofs.Turns.{there, below, sends_none, sends_idle, sends_sent, sent_frame, sent_wire}
+use Rattle.vmx_model.specs.Turns.{send_from}
+use Rattle.vmx_model.proofs.Sends.{sends_none, sends_idle, sends_sent, sent_frame}
+use Rattle.vmx_serial_reference.specs.Worlds.{world_of}
+use Rattle.vmx_serial_reference.proofs.Turns.{there, below, sent_wire}
 use Rattle.vmx_serial_reference.proofs.world.World.send.Goals as goal
 
 pub returns-then-number-records : goal.returns-then-number-records

@@ -1,9 +1,9 @@
 use Rattle.std.proofs.Common.{◌+◌, ◌<◌, ◌^◌, map, length, sym, arith, subst, All, List, ℕ}
 use Rattle.vmx_model.specs.Serial.{transmitted}
 use Rattle.vmx_serial_queues.specs.Queues.{marked}
-use Rattle.vmx_serial_reference.specs.Seats.{seat_of}
-use Rattle.vmx_serial_reference.specs.Small.{IsSmall}
-use Rattle.vmx_serial_reference.proofs.SmallLaws.{small_more, small_transmitted}
+use Rattle.vmx_serial_seats.specs.Seats.{seat_of}
+use Rattle.vmx_serial_seats.specs.Small.{IsSmall}
+use Rattle.vmx_serial_seats.proofs.SmallLaws.{small_more, small_transmitted}
 use Rattle.vmx_serial_reference.proofs.WayLaws.{at_small, targets_in}
 use Rattle.vmx_serial_reference.proofs.world.World.send_on.Goals as goal
 

@@ -2,8 +2,8 @@ use Rattle.std.proofs.Common.{◌+◌, ◌≤◌, ◌^◌, take, length, length-
 use Rattle.std.proofs.lemmas.List.Elements.{All-weaker}
 use Rattle.vmx_model.specs.Serial.{World}
 use Rattle.vmx_serial_reference.specs.Worlds.{world_of}
-use Rattle.vmx_serial_reference.specs.Small.{IsSmall, MOST}
-use Rattle.vmx_serial_reference.proofs.SmallLaws.{small_more}
+use Rattle.vmx_serial_seats.specs.Small.{IsSmall, MOST}
+use Rattle.vmx_serial_seats.proofs.SmallLaws.{small_more}
 use Rattle.vmx_serial_reference.proofs.WayLaws.{small_all}
 use Rattle.vmx_serial_reference.proofs.world.World.spread.Goals as goal
 

@@ -4,11 +4,12 @@ use Rattle.std.proofs.lemmas.List.{length-map}
 use Rattle.std.proofs.lemmas.Result.{on_ok_weaker}
 use Rattle.vmx_model.specs.Plan.{captured}
 use Rattle.vmx_model.specs.Serial.{Seat, acted, sends}
-use Rattle.vmx_serial_reference.specs.Seats.{seat_of}
+use Rattle.vmx_serial_seats.specs.Seats.{seat_of}
 use Rattle.vmx_serial_reference.specs.Worlds.{wire_of, world_of}
-use Rattle.vmx_serial_reference.specs.Small.{IsSmall}
+use Rattle.vmx_serial_seats.specs.Small.{IsSmall}
 use Rattle.vmx_serial_reference.proofs.WayLaws.{at_small, small_acted}
-use Rattle.vmx_serial_reference.proofs.Turns.{there, queues_there, turn_there}
+use Rattle.vmx_model.proofs.Sends.{turn_there}
+use Rattle.vmx_serial_reference.proofs.Turns.{there, queues_there}
 use Rattle.vmx_serial_reference.proofs.world.World.turn.Goals as goal
 
 pub act_at-requires-clause-queues : goal.act_at-requires-clause-queues
