@@ -10,11 +10,11 @@ use Rattle.vmx_tool.specs.declared.load.Stop.TheVariants as stop
 use Rattle.vmx_tool.specs.declared.status.Outcome.{Outcome}
 use Rattle.vmx_tool.specs.declared.status.Status.{Status}
 use Rattle.vmx_tool.specs.declared.status.Status.TheVariants as status
-use Rattle.vmx_tool.specs.declared.«record».Record.{Record}
+use Rattle.vmx_pair.specs.declared.«record».Record.{Record}
 use Rattle.vmx_tool.specs.Words.{pair_of}
-use Rattle.vmx_tool.specs.Fates.{sent_records}
+use Rattle.vmx_pair.specs.Fates.{sent_records}
 use Rattle.vmx_tool.specs.Lines.{usage_lines, write_line, memory_line, line_of}
-use Rattle.vmx_tool.specs.Summary.{summary}
+use Rattle.vmx_pair.specs.Summary.{summary}
 use Rattle.vmx_tool.specs.Ends.{World, Says, SaysPart, SaysFound, SaysBoth, SaysNoMemory, Refuses, Finishes, Replays, StoppedBy, Ends, Loaded, LoadedCounts, status_of}
 use Rattle.vmx_tool.proofs.Said.{nothing_more, part_of_write}
 
@@ -75,8 +75,7 @@ misuse view line o words w v (inr (e, part, le)) is none none_of files reads wri
 by_stop : (why : Stop) (account : Option Record) (words : List (List ℕ)) (w v : World) → StoppedBy why account words w v → Ends (status_of why) account words w v
 by_stop stop.Failed account words w v h = h
 by_stop stop.TooLong account words w v h = h
-by_stop (stop.Header len) account words w v h = inl (len, h)
-by_stop stop.Form account words w v h = inr h
+by_stop (stop.Capture fault) account words w v h = (fault, h)
 by_stop stop.NoMemory account words w v h = inl (record { files = h.files; writes = h.writes; account_is = h.account_is; said = part_of_says memory_line w.text v.text w.prints v.prints h.said })
 
 -- the load stopped

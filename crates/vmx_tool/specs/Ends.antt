@@ -3,9 +3,9 @@ use Rattle.std.specs.Prelude.{◌≡◌, ◌⊎◌, ℕ, ◌<◌, ◌≤◌, Lis
 use Rattle.vmx_io.specs.Outside.{Files, WhereTold, content, with_file, with_text, ChangedOnly, Rose}
 use Rattle.vmx_pcap.specs.declared.records.Stamped.{Stamped}
 use Rattle.vmx_pcap.specs.declared.records.Capture.{Capture}
-use Rattle.vmx_pcap.specs.declared.fault.CaptureFault.TheVariants as fault
+use Rattle.vmx_pcap.specs.declared.fault.CaptureFault.{CaptureFault}
 use Rattle.vmx_pcap.specs.Capture.{IsCapture}
-use Rattle.vmx_pcap.specs.Faults.{HasFault}
+use Rattle.vmx_pcap.specs.Faults.{fault_at}
 use Rattle.vmx_pcap.specs.Written.{capture_bytes}
 use Rattle.vmx_model.specs.declared.limits.TheConstants.{MAX_RECORDS, MAX_BYTES}
 use Rattle.vmx_model.specs.declared.plan.Plan.{Plan}
@@ -15,20 +15,12 @@ use Rattle.vmx_tool.specs.declared.load.Stop.TheVariants as stop
 use Rattle.vmx_tool.specs.declared.status.Outcome.{Outcome}
 use Rattle.vmx_tool.specs.declared.status.Status.{Status}
 use Rattle.vmx_tool.specs.declared.status.Status.TheVariants as status
-use Rattle.vmx_tool.specs.declared.«record».Record.{Record}
+use Rattle.vmx_pair.specs.declared.«record».Record.{Record}
 use Rattle.vmx_tool.specs.Words.{pair_of}
-use Rattle.vmx_tool.specs.Plan.{IsPairPlan}
-use Rattle.vmx_tool.specs.Fates.{Accounts, sent_records}
+use Rattle.vmx_pair.specs.Plan.{IsPairPlan}
+use Rattle.vmx_pair.specs.Fates.{Accounts, sent_records}
 use Rattle.vmx_tool.specs.Lines.{usage_lines, write_line, memory_line, line_of}
-use Rattle.vmx_tool.specs.Summary.{summary}
-
--- what a replay by the plan of `pair` leaves: the record, the file and the summary
-pub record IsReplay (capture : Capture) (account : Record) (file lines : List ℕ) : Type 0 where
-  pub plan : Plan
-  pub planned : IsPairPlan capture plan
-  pub accounts : Accounts planned.a account
-  pub file_is : file ≡ capture_bytes (sent_records planned.a)
-  pub lines_are : lines ≡ summary planned.a
+use Rattle.vmx_pair.specs.Summary.{summary}
 
 -- the outside at one moment
 pub record World : Type 0 where
@@ -52,8 +44,7 @@ pub record HoldsCapture (bytes : List ℕ) (records : List Stamped) (tail : ℕ)
 abbrev pub Loaded : Result ReadCapture Stop → List ℕ → Option Files → Type 0
 Loaded (Ok read) from files = (length read.capture.records ≤ MAX_RECORDS) × WhereTold files (λ f. HoldsCapture (content f from) read.capture.records read.capture.tail)
 Loaded (Err stop.TooLong) from files = WhereTold files (λ f. MAX_BYTES < length (content f from))
-Loaded (Err (stop.Header len)) from files = WhereTold files (λ f. HasFault (fault.Header len) (content f from) MAX_RECORDS)
-Loaded (Err stop.Form) from files = WhereTold files (λ f. (length (content f from) ≤ MAX_BYTES) × HasFault fault.Form (content f from) MAX_RECORDS)
+Loaded (Err (stop.Capture fault)) from files = WhereTold files (λ f. (length (content f from) ≤ MAX_BYTES) × (fault_at (content f from) MAX_RECORDS ≡ Some fault))
 Loaded (Err stop.Failed) from files = Unit {0}
 Loaded (Err stop.NoMemory) from files = Unit {0}
 
@@ -61,8 +52,7 @@ Loaded (Err stop.NoMemory) from files = Unit {0}
 abbrev pub LoadedCounts : Result ReadCapture Stop → ℕ → ℕ → Type 0
 LoadedCounts (Ok read) before now = now ≡ before
 LoadedCounts (Err stop.TooLong) before now = now ≡ before
-LoadedCounts (Err (stop.Header len)) before now = now ≡ before
-LoadedCounts (Err stop.Form) before now = now ≡ before
+LoadedCounts (Err (stop.Capture fault)) before now = now ≡ before
 LoadedCounts (Err stop.Failed) before now = (before ≤ now) × Rose before now
 LoadedCounts (Err stop.NoMemory) before now = now ≡ before
 
@@ -131,8 +121,7 @@ pub record Finished (end : Status) (account : Option Record) (words : List (List
 abbrev pub status_of : Stop → Status
 status_of stop.Failed = status.ReadFault
 status_of stop.TooLong = status.TooLong
-status_of (stop.Header len) = status.Capture
-status_of stop.Form = status.Capture
+status_of (stop.Capture fault) = status.Capture
 status_of stop.NoMemory = status.NoMemory
 
 -- a run that found no capture under IN
@@ -167,7 +156,7 @@ pub record Starved (account : Option Record) (w v : World) : Type 0 where
 abbrev pub Ends : Status → Option Record → List (List ℕ) → World → World → Type 0
 Ends status.Ok account words w v = Finished status.Ok account words w v
 Ends status.Usage account words w v = Misused account words w v
-Ends status.Capture account words w v = ((len : ℕ) × StoppedBy (stop.Header len) account words w v) ⊎ StoppedBy stop.Form account words w v
+Ends status.Capture account words w v = (fault : CaptureFault) × StoppedBy (stop.Capture fault) account words w v
 Ends status.TooLong account words w v = StoppedBy stop.TooLong account words w v
 Ends status.ReadFault account words w v = StoppedBy stop.Failed account words w v
 Ends status.WriteFault account words w v = Finished status.WriteFault account words w v

@@ -8,19 +8,12 @@
 mod gate;
 mod lines;
 mod load;
-mod plan;
-mod record;
-mod replay;
 mod status;
-mod summary;
 mod top;
 mod words;
 
 pub use gate::{Gate, NoGate};
-pub use record::Record;
 pub use status::{Outcome, Status};
 pub use top::{run, run_serial};
+pub use vmx_pair::Record;
 pub use words::wants_threads;
-
-#[cfg(test)]
-mod tests;

@@ -1,10 +1,11 @@
 //! The lines of faults, each of which ends with a line feed. Own to this project.
 ghost use Rattle.std.specs.Prelude.{◌≡◌, IfOk};
 ghost use Rattle.std.specs.String.{string_bytes};
-ghost use Rattle.vmx_tool.specs.Lines.{header_line, form_line, too_long_line, read_line, write_line, usage_lines, memory_line, line_of};
+ghost use Rattle.vmx_tool.specs.Lines.{header_line, magic_line, version_line, link_line, long_line, many_line, capture_line, too_long_line, read_line, write_line, usage_lines, memory_line, line_of};
 
 use crate::load::Stop;
 use std::alloc::{AllocError, Global};
+use vmx_pcap::CaptureFault;
 
 /// The line of a capture that is not there.
 pub fn stop_line(alloc: Global, stop: Stop, name: &str) -> Result<String, AllocError>
@@ -13,9 +14,23 @@ pub fn stop_line(alloc: Global, stop: Stop, name: &str) -> Result<String, AllocE
     match stop {
         Stop::Failed => read_fault(alloc, name),
         Stop::TooLong => too_long(alloc, name),
-        Stop::Header { len } => header(alloc, name, len),
-        Stop::Form => form(alloc, name),
+        Stop::Capture { fault } => capture_fault(alloc, name, fault),
         Stop::NoMemory => no_memory(alloc),
+    }
+}
+
+/// The line of bytes that are no capture.
+fn capture_fault(alloc: Global, name: &str, fault: CaptureFault) -> Result<String, AllocError>
+    ensures line { IfOk result (λ s. string_bytes s ≡ capture_line fault name.now) }
+{
+    match fault {
+        CaptureFault::Header { len } => header(alloc, name, len),
+        CaptureFault::Magic { found } => magic(alloc, name, found),
+        CaptureFault::Version { major, minor } => version(alloc, name, major, minor),
+        CaptureFault::Link { found } => link(alloc, name, found),
+        CaptureFault::Long { index, found } => long(alloc, name, index, found),
+        CaptureFault::Many { index } => many(alloc, name, index),
+        CaptureFault::Memory => no_memory(alloc),
     }
 }
 
@@ -59,11 +74,39 @@ fn header(alloc: Global, name: &str, len: u32) -> Result<String, AllocError>
     format!(in alloc; "capture {name}: header {len}\n")
 }
 
-#[tactic(auto, unfolding(crate::specs::Lines::form_line))]
-fn form(alloc: Global, name: &str) -> Result<String, AllocError>
-    ensures line { IfOk result (λ s. string_bytes s ≡ form_line name.now) }
+#[tactic(auto, unfolding(crate::specs::Lines::magic_line))]
+fn magic(alloc: Global, name: &str, found: u32) -> Result<String, AllocError>
+    ensures line { IfOk result (λ s. string_bytes s ≡ magic_line found name.now) }
 {
-    format!(in alloc; "capture {name}: form\n")
+    format!(in alloc; "capture {name}: magic 0x{found:08x}\n")
+}
+
+#[tactic(auto, unfolding(crate::specs::Lines::version_line))]
+fn version(alloc: Global, name: &str, major: u16, minor: u16) -> Result<String, AllocError>
+    ensures line { IfOk result (λ s. string_bytes s ≡ version_line major minor name.now) }
+{
+    format!(in alloc; "capture {name}: version {major} {minor}\n")
+}
+
+#[tactic(auto, unfolding(crate::specs::Lines::link_line))]
+fn link(alloc: Global, name: &str, found: u32) -> Result<String, AllocError>
+    ensures line { IfOk result (λ s. string_bytes s ≡ link_line found name.now) }
+{
+    format!(in alloc; "capture {name}: link {found}\n")
+}
+
+#[tactic(auto, unfolding(crate::specs::Lines::long_line))]
+fn long(alloc: Global, name: &str, index: u32, found: u32) -> Result<String, AllocError>
+    ensures line { IfOk result (λ s. string_bytes s ≡ long_line index found name.now) }
+{
+    format!(in alloc; "capture {name}: record {index} length {found}\n")
+}
+
+#[tactic(auto, unfolding(crate::specs::Lines::many_line))]
+fn many(alloc: Global, name: &str, index: u32) -> Result<String, AllocError>
+    ensures line { IfOk result (λ s. string_bytes s ≡ many_line index name.now) }
+{
+    format!(in alloc; "capture {name}: record {index} too many\n")
 }
 
 #[tactic(auto, unfolding(crate::specs::Lines::memory_line))]

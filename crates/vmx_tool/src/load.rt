@@ -2,7 +2,7 @@
 //!
 //! Once the records are read, nobody reads the file's bytes any more: their memory is handed on as room.
 ghost use Rattle.std.specs.Prelude.{◌≡◌, IfOk};
-ghost use Rattle.vmx_tool.specs.Plan.{Fits};
+ghost use Rattle.vmx_pair.specs.Plan.{Fits};
 ghost use Rattle.vmx_tool.specs.Ends.{Loaded, LoadedCounts};
 
 use std::alloc::Global;
@@ -24,16 +24,14 @@ pub enum Stop {
     Failed,
     /// The file is longer than the limit.
     TooLong,
-    /// The file has `len` bytes, fewer than the 24 of a header.
-    Header { len: u32 },
-    /// The file is no capture that is read.
-    Form,
+    /// The file is no capture that is read, by the first check that fails. It is never want of memory.
+    Capture { fault: CaptureFault },
     /// No memory was found.
     NoMemory,
 }
 
 /// Loads a file and reads the capture that it holds.
-#[tactic(auto, using(crate::proofs::Sizes::within_bytes))]
+#[tactic(auto, using(vmx_pair::proofs::Sizes::within_bytes, vmx_pcap::specs::Unique::shown_fault))]
 pub fn load_capture<S: Shelf>(alloc: Global, from: &str, shelf: &mut S) -> Result<ReadCapture, Stop>
     ensures fits { IfOk result (λ read. Fits read.capture) }
     ensures content { Loaded result from.now (S.files shelf.old) }
@@ -52,8 +50,7 @@ pub fn load_capture<S: Shelf>(alloc: Global, from: &str, shelf: &mut S) -> Resul
             capture,
             room: bytes,
         }),
-        Err(CaptureFault::Header { len }) => Err(Stop::Header { len }),
-        Err(CaptureFault::Form) => Err(Stop::Form),
         Err(CaptureFault::Memory) => Err(Stop::NoMemory),
+        Err(fault) => Err(Stop::Capture { fault }),
     }
 }

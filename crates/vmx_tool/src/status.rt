@@ -2,7 +2,7 @@
 ghost use Rattle.std.specs.Prelude.{◌≡◌};
 ghost use Rattle.vmx_tool.specs.Status.{number_of};
 
-use crate::record::Record;
+use vmx_pair::Record;
 
 /// How a run ended. The first fault decides, in the order of the work: words, load and reading of the capture, save,
 /// summary.

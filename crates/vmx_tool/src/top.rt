@@ -2,23 +2,22 @@
 //!
 //! The first fault decides the status. Every fault's line, and the summary, is one write to the console; a failure of
 //! a line's write changes no status, and want of memory for a line makes it `NoMemory`.
-ghost use Rattle.std.specs.Prelude.{◌≡◌, ◌≤◌, map, length, List, ◌<◌, ◌⊎◌, ℕ, Option, Some, None, false};
+ghost use Rattle.std.specs.Prelude.{◌≡◌, ◌≤◌, map, length, List, ◌<◌, ℕ, Option, Some, None, false};
 ghost use Rattle.std.specs.String.{string_bytes};
 ghost use Rattle.vmx_io.specs.Outside.{Files, content, Rose};
-ghost use Rattle.vmx_pcap.specs.Faults.{HasFault};
+ghost use Rattle.vmx_pcap.specs.Faults.{fault_at};
 ghost use Rattle.vmx_tool.specs.Words.{pair_of, asks_threads};
 ghost use Rattle.vmx_tool.specs.Ends.{Ends, EndsAt, EndsAtOneOf, HoldsCapture, Finishes, Refuses, SaysNoMemory, status_of, world};
 
 use crate::gate::Gate;
 use crate::lines;
 use crate::load::{Stop, load_capture};
-use crate::record::Record;
-use crate::replay::{Replayed, replay};
 use crate::status::{Outcome, Status};
 use crate::words::pair_names;
 use std::alloc::{AllocError, Global};
 use vmx_io::{Console, Save, Shelf};
 use vmx_model::{MAX_BYTES, MAX_RECORDS};
+use vmx_pair::{Record, Replayed, replay};
 use vmx_pcap::{CaptureFault, Stamped};
 
 /// Does what the words ask for. It returns, and calls no gate yet.
@@ -40,7 +39,7 @@ pub fn run<S: Shelf, C: Console, G: Gate + Sync>(
     ensures too_long { (from to : List ℕ) (files : Files) → pair_of (map string_bytes words.now) ≡ Some (from, to) → S.files shelf.old ≡ Some files
         → MAX_BYTES < length (content files from) → EndsAtOneOf result.status Status.TooLong Status.ReadFault }
     ensures capture { (from to : List ℕ) (files : Files) (e : CaptureFault) → pair_of (map string_bytes words.now) ≡ Some (from, to) → S.files shelf.old ≡ Some files
-        → length (content files from) ≤ MAX_BYTES → HasFault e (content files from) MAX_RECORDS → (e ≡ CaptureFault.Memory) ⊎ EndsAtOneOf result.status Status.Capture Status.ReadFault }
+        → length (content files from) ≤ MAX_BYTES → fault_at (content files from) MAX_RECORDS ≡ Some e → EndsAtOneOf result.status Status.Capture Status.ReadFault }
 
     // A run without a fault is `Ok`, but for want of memory.
     ensures complete { (from to : List ℕ) (files : Files) (records : List Stamped) (tail : ℕ) → pair_of (map string_bytes words.now) ≡ Some (from, to) → S.files shelf.old ≡ Some files
@@ -72,7 +71,7 @@ pub fn run_serial<S: Shelf, C: Console>(
     ensures too_long { (from to : List ℕ) (files : Files) → pair_of (map string_bytes words.now) ≡ Some (from, to) → S.files shelf.old ≡ Some files
         → MAX_BYTES < length (content files from) → EndsAtOneOf result.status Status.TooLong Status.ReadFault }
     ensures capture { (from to : List ℕ) (files : Files) (e : CaptureFault) → pair_of (map string_bytes words.now) ≡ Some (from, to) → S.files shelf.old ≡ Some files
-        → length (content files from) ≤ MAX_BYTES → HasFault e (content files from) MAX_RECORDS → (e ≡ CaptureFault.Memory) ⊎ EndsAtOneOf result.status Status.Capture Status.ReadFault }
+        → length (content files from) ≤ MAX_BYTES → fault_at (content files from) MAX_RECORDS ≡ Some e → EndsAtOneOf result.status Status.Capture Status.ReadFault }
 
     // A run without a fault is `Ok`, but for want of memory.
     ensures complete { (from to : List ℕ) (files : Files) (records : List Stamped) (tail : ℕ) → pair_of (map string_bytes words.now) ≡ Some (from, to) → S.files shelf.old ≡ Some files
@@ -167,7 +166,7 @@ fn stop_status(stop: Stop) -> Status
     match stop {
         Stop::Failed => Status::ReadFault,
         Stop::TooLong => Status::TooLong,
-        Stop::Header { .. } | Stop::Form => Status::Capture,
+        Stop::Capture { .. } => Status::Capture,
         Stop::NoMemory => Status::NoMemory,
     }
 }

@@ -40,12 +40,19 @@ fn each_front_of_a_capture_has_its_line(rt: HostRuntime) -> Result<(), Fail> {
     Ok(())
 }
 
-/// A byte of the three frames' capture, and what stands there instead: magic number, version (major, minor), link type, a captured length
-/// above 262,144.
-const CHANGES: [(usize, u8); 5] = [(0, 0xd5), (4, 3), (6, 3), (20, 113), (34, 5)];
+/// A byte of the three frames' capture, what stands there instead, and the line: magic number, version (major, minor), link type, a
+/// captured length above 262,144.
+const CHANGES: [(usize, u8, &str); 6] = [
+    (0, 0xd5, "capture in: magic 0xd5c3b2a1\n"),
+    (0, 0x04, "capture in: magic 0x04c3b2a1\n"),
+    (4, 3, "capture in: version 3 4\n"),
+    (6, 3, "capture in: version 2 3\n"),
+    (20, 113, "capture in: link 113\n"),
+    (34, 5, "capture in: record 0 length 327740\n"),
+];
 
-/// Whether the capture with this byte changed is refused by its form, with no record and without OUT.
-fn is_refused(alloc: Global, index: usize, byte: u8) -> Result<bool, AllocError> {
+/// Whether the capture with this byte changed is refused with this line, with no record and without OUT.
+fn is_refused(alloc: Global, index: usize, byte: u8, line: &str) -> Result<bool, AllocError> {
     let mut bytes = capture(alloc, &THREE)?;
     if let Some(place) = bytes.get_mut(index) {
         *place = byte;
@@ -53,7 +60,7 @@ fn is_refused(alloc: Global, index: usize, byte: u8) -> Result<bool, AllocError>
     let ended = pair(alloc, bytes)?;
     Ok(
         ended.number == 4
-            && ended.text.as_slice() == b"capture in: form\n".as_slice()
+            && ended.text.as_slice() == line.as_bytes()
             && ended.out.is_none()
             && ended.account.is_none(),
     )
@@ -61,8 +68,8 @@ fn is_refused(alloc: Global, index: usize, byte: u8) -> Result<bool, AllocError>
 
 #[test]
 fn what_is_no_capture_is_refused(rt: HostRuntime) -> Result<(), Fail> {
-    for (index, byte) in &CHANGES {
-        assert!(rt; is_refused(rt.alloc(), *index, *byte)?, "{index}");
+    for (index, byte, line) in &CHANGES {
+        assert!(rt; is_refused(rt.alloc(), *index, *byte, line)?, "{index}");
     }
     Ok(())
 }

@@ -1,0 +1,5 @@
+pub mod Plan
+pub mod Lengths
+pub mod Fates
+pub mod Summary
+pub mod Replays
