@@ -1,0 +1,5 @@
+pub mod Pieces
+pub mod Rule
+pub mod Seats
+pub mod Tells
+pub mod Walks

@@ -1,0 +1,5 @@
+mod CompletionMoves
+mod CompletionSteps
+mod Counting
+mod Between
+mod Showing

@@ -1,0 +1,5 @@
+pub mod Completions
+pub mod CompletionLaws
+pub mod Tells
+pub mod Ends
+pub mod Laws

@@ -1,0 +1,14 @@
+use Rattle.std.proofs.Common.{◌≤◌, ◌*◌, length}
+use Rattle.vmx_ends.specs.Transmit.{posted}
+use Rattle.vmx_txq.specs.Ends.{driver_view}
+use Rattle.vmx_txq_tests.specs.Same.{SameDriver}
+use Rattle.vmx_txq_tests.proofs.tests.send.Given as goal
+
+abbrev pub invariant-loop-tries : goal.invariant-loop-tries
+invariant-loop-tries l = record {
+  kept : SameDriver (driver_view l.initial.driver) (driver_view l.driver);
+  sent : length (driver_view l.driver).sent ≤ l.tries;
+  posted_most : posted (driver_view l.driver) ≤ 16 * l.tries;
+  reaped : (driver_view l.driver).reaped ≤ l.tries;
+  number : l.number ≤ l.tries;
+}
