@@ -55,6 +55,7 @@ impl Packet {
     /// A packet with these bytes.
     pub fn holding(tag: Tag, frame: Vec<u8>) -> Packet
         requires bounds { (MIN_FRAME ≤ length frame.items) × (length frame.items ≤ MAX_FRAME) }
+        ensures tag { result.tag ≡ tag }
         ensures frame { result.frame ≡ frame.items }
     {
         Packet {
