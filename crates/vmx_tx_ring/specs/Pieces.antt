@@ -4,6 +4,7 @@ use Rattle.vmx_layout.specs.Bits.{bit, field}
 use Rattle.vmx_layout.specs.Addresses.{tx_buffer, tx_data_entry}
 use Rattle.vmx_layout.specs.TxDesc.{Second, second_word}
 use Rattle.vmx_layout.specs.declared.addresses.TheConstants.{DATA_ENTRY_SIZE}
+use Rattle.vmx_layout.specs.declared.tx_desc.TheConstants.{LEN, MSSCOF, HLEN, OM, EOP, TI, TCI, LEN_WIDTH, MSSCOF_WIDTH, HLEN_WIDTH, OM_WIDTH, TCI_WIDTH}
 use Rattle.vmx_genring.specs.Rings.{generation_bit, Entry, Contents}
 use Rattle.vmx_ends.specs.declared.made.TxMade.{TxMade}
 use Rattle.vmx_ends.specs.declared.meta.TxMark.{TxMark}
@@ -95,7 +96,7 @@ tag_bytes (Some tci) = tci
 
 abbrev pub TagFits : Option ℕ → Type 0
 TagFits None = Unit {0}
-TagFits (Some tci) = tci < 2 ^ 16
+TagFits (Some tci) = tci < 2 ^ TCI_WIDTH
 
 -- the numbers fit into their fields
 pub record NumbersFit (n : MarkNumbers) : Type 0 where
@@ -145,8 +146,8 @@ descriptor_ring m sent staged opened reaped = record {
 
 -- the numbers of a mark that a second word tells
 abbrev pub numbers_in : ℕ → MarkNumbers
-numbers_in word = record { tci = if field word 47 1 == 1 then Some (field word 48 16) else None; om = field word 42 2; hlen = field word 32 10; msscof = field word 18 14 }
+numbers_in word = record { tci = if field word TI 1 == 1 then Some (field word TCI TCI_WIDTH) else None; om = field word OM OM_WIDTH; hlen = field word HLEN HLEN_WIDTH; msscof = field word MSSCOF MSSCOF_WIDTH }
 
 -- the piece that a second word and a buffer tell, by where it lies
 abbrev pub piece_in : Bool → ℕ → TxBuffer → TxPiece
-piece_in in_data word b = record { bytes = take (field word 0 14) (lies in_data b); last = field word 44 1 == 1; in_data = in_data; numbers = numbers_in word }
+piece_in in_data word b = record { bytes = take (field word LEN LEN_WIDTH) (lies in_data b); last = field word EOP 1 == 1; in_data = in_data; numbers = numbers_in word }

@@ -20,7 +20,7 @@ use vmx_layout::DATA_ENTRY_SIZE;
 
 /// As many buffers as there are descriptors, each with its data entry.
 fn buffers(alloc: Global, count: u32) -> Result<Vec<TxBuffer>, AllocError>
-    ensures { IfOk result (λ v. vec_len v ≡ count) }
+    ensures count { IfOk result (λ v. vec_len v ≡ count) }
 {
     let mut buffers = Vec::new(alloc);
     for _ in 0..count {

@@ -5,6 +5,7 @@ ghost use Rattle.vmx_layout.specs.Bits.{bit, field};
 ghost use Rattle.vmx_layout.specs.TxDesc.{second_word};
 ghost use Rattle.vmx_layout.specs.declared.addresses.TheConstants.{MAX_RING_SIZE, DATA_ENTRY_SIZE};
 ghost use Rattle.vmx_layout.specs.declared.TheConstants.{TX_DESC_GENERATION_BIT};
+ghost use Rattle.vmx_layout.specs.declared.tx_desc.TheConstants.{UNNAMED, OM, OM_WIDTH};
 ghost use Rattle.vmx_genring.specs.Rings.{flipped};
 ghost use Rattle.vmx_ends.specs.declared.limits.TheConstants.{MAX_DESCRIPTORS, MAX_PIECE};
 ghost use Rattle.vmx_ends.specs.declared.meta.TheConstants.{OM_UNLAWFUL};
@@ -15,20 +16,18 @@ ghost use Rattle.vmx_tx_ring.specs.Pieces.{address, told_of, numbers_of, numbers
 use crate::known::TxBuffer;
 use vmx_ends::{TxMade, TxMark};
 use vmx_layout::{
-    BUFFER_STRIDE, DATA_ENTRY_SIZE, RINGS_OF_QUEUE, TX_BUFFERS, TX_BUFFERS_OF_QUEUE,
-    TX_DATA_RING_OFFSET, TX_DESC_GENERATION_BIT, TX_RINGS, TxDesc,
+    DATA_ENTRY_SIZE, TX_DESC_GENERATION_BIT, TxDesc, tx_buffer_address, tx_data_entry_address,
 };
 
-/// The guest address of the data entry, or of the buffer, of the descriptor with this index. Other than `vmx_layout`'s
-/// it takes each number of a queue.
-pub(crate) fn address_of(queue: u32, in_data: bool, index: u64) -> u64
-    requires { index < MAX_RING_SIZE }
-    ensures { result ≡ address queue in_data index }
+/// The guest address of the data entry, or of the buffer, of the descriptor with this index.
+pub(crate) fn address_of(queue: u32, in_data: bool, index: u32) -> u64
+    requires index { index < MAX_RING_SIZE }
+    ensures value { result ≡ address queue in_data index }
 {
     if in_data {
-        TX_RINGS + u64::from(queue) * RINGS_OF_QUEUE + TX_DATA_RING_OFFSET + DATA_ENTRY_SIZE * index
+        tx_data_entry_address(queue, index)
     } else {
-        TX_BUFFERS + u64::from(queue) * TX_BUFFERS_OF_QUEUE + index * BUFFER_STRIDE
+        tx_buffer_address(queue, index)
     }
 }
 
@@ -45,7 +44,7 @@ pub(crate) fn goes_to_data(made: &TxMade, posted: u64, published: u64) -> bool
 }
 
 fn has_tag(tci: Option<u16>) -> bool
-    ensures { bit result ≡ tag_there tci }
+    ensures there { bit result ≡ tag_there tci }
 {
     match tci {
         Some(_) => true,
@@ -100,8 +99,8 @@ fn tag_in(ti: bool, tci: u16) -> Option<u16>
 /// The mark that a second word tells. The bit without a name is not set, and the offload mode is one that a frame may
 /// have.
 pub(crate) fn mark_of(word: u64) -> TxMark
-    requires named { field word 15 1 ≡ 0 }
-    requires lawful { field word 42 2 ≢ OM_UNLAWFUL }
+    requires named { field word UNNAMED 1 ≡ 0 }
+    requires lawful { field word OM OM_WIDTH ≢ OM_UNLAWFUL }
     ensures numbers { numbers_of result ≡ numbers_in word }
 {
     let Ok(told) = TxDesc::of_words([0, word]) else {
@@ -188,7 +187,7 @@ fn append(bytes: &[u8], into: &mut Vec<u8>)
 
 /// The bytes of a buffer's data entry, or of the buffer.
 fn bytes_of(buffer: &TxBuffer, in_data: bool) -> &[u8]
-    ensures { result.now ≡ lies in_data buffer.now }
+    ensures value { result.now ≡ lies in_data buffer.now }
 {
     if in_data {
         buffer.entry.as_slice()
@@ -221,7 +220,7 @@ pub(crate) fn head_of(bytes: &[u8], size: usize) -> &[u8]
 
 /// The bytes behind these.
 pub(crate) fn rest_of(bytes: &[u8], size: usize) -> &[u8]
-    ensures { result.now ≡ drop size bytes.now }
+    ensures value { result.now ≡ drop size bytes.now }
 {
     if bytes.len() <= size {
         &bytes[bytes.len()..]
@@ -241,7 +240,7 @@ pub(crate) fn piece_at(bytes: &[u8], place: usize, size: usize) -> &[u8]
 
 /// Whether the piece is the last of so many.
 pub(crate) fn ends(place: u32, count: u32) -> bool
-    requires { place < count }
+    requires within { place < count }
     ensures last { count ≡ place + 1 → result ≡ true }
     ensures further { place + 1 < count → result ≡ false }
 {

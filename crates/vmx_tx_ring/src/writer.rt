@@ -82,7 +82,7 @@ impl<C: TellsCompletions> TxWriter<C> {
         shared.store::<DriverOpens>(
             &mut self.seat,
             (size + index) as usize,
-            address_of(name.queue, in_data, index),
+            address_of(name.queue, in_data, index as u32),
         );
         pack(self.seat.slot_mut(shared, index as usize), in_data, piece);
         shared.store::<DriverStages>(&mut self.seat, index as usize, stored);

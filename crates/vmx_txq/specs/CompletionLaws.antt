@@ -3,6 +3,7 @@ use Rattle.std.proofs.Common.{◌≡◌, ℕ, zero, suc, ◌+◌, ◌-◌, ◌*�
 use Rattle.std.proofs.lemmas.List.{take-append-le, replicate-append-replicate}
 use lib.ListN.{replicate}
 use Rattle.vmx_layout.specs.TxComp.{first_word}
+use Rattle.vmx_layout.specs.declared.TheConstants.{COMPLETION_GENERATION_BIT}
 use Rattle.vmx_genring.specs.Rings.{StandFor, Entry, generation_bit}
 use Rattle.vmx_genring.specs.RingLaws.{begins as ring_begins}
 use Rattle.vmx_ends.specs.declared.made.TxMade.{TxMade}
@@ -24,7 +25,7 @@ rows_stable m sent s completed closing reaped words le wait r = record {
   firsts = r.firsts;
   seconds = r.seconds;
   are = r.are;
-  stand = subst (λ (z : List Entry × Option ℕ). StandFor m.size 63 r.firsts r.seconds (record { entries = z.0; next = z.1; published = completed; consumed = reaped }))
+  stand = subst (λ (z : List Entry × Option ℕ). StandFor m.size COMPLETION_GENERATION_BIT r.firsts r.seconds (record { entries = z.0; next = z.1; published = completed; consumed = reaped }))
       (λ k. (sym (completions-stay m sent (s ∷ []) completed le) k, waiting closing refl k)) r.stand;
 }
   where
@@ -37,5 +38,5 @@ rows_begin m some = record {
   firsts = replicate m.size 0;
   seconds = replicate m.size 0;
   are = let twice : m.size * 2 ≡ m.size + m.size = omega arith in let z : ℕ = 0 in ap (λ (k : ℕ). replicate k z) twice ∙ sym (replicate-append-replicate m.size m.size z);
-  stand = ring_begins m.size 63;
+  stand = ring_begins m.size COMPLETION_GENERATION_BIT;
 }

@@ -9,8 +9,8 @@ use vmx_layout::TxComp;
 
 /// The words of a completion, by the index of its frame's last descriptor.
 pub(crate) fn completion_words(index: u16, generation: bool) -> [u64; 2]
-    requires { index < MAX_RING_SIZE }
-    ensures { result ≡ first_word index ∷ completed_word (bit generation) ∷ [] }
+    requires index { index < MAX_RING_SIZE }
+    ensures words { result ≡ first_word index ∷ completed_word (bit generation) ∷ [] }
 {
     let completion = TxComp {
         txd_idx: index,

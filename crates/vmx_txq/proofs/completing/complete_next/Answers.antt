@@ -10,7 +10,7 @@ use Rattle.vmx_txq.proofs.completing.complete_next.Goals as goal
 pub store-requires : goal.store-requires
 store-requires c = let me = c.args.reader.now in let v = me.seat.me.0 in let id_is = me.seated ∙ sym (ap (λ q. q.shared.table_id) c.deref.ensures) in let size = ap (λ z. z.size) (sym me.made_is) in let many = ap (λ z. z.words) id_is in let wide = c.requires.wide in let low = mod-lt me.completed me.size.0 in
     let at = ap₂ (λ (a b : ℕ). a % b) me.places.2 size in let none = ap length c.requires.none in let sum = me.found.0 in let p0 = me.places.0 in
-    (search rules, omega arith, device_closes _ _ _ _ _ me.rests.0 me.rests.1 me.rests.3 c.requires.taken (λ i. size i + (size i + (size i + at i))) (ap (λ l. get_or l 0 0) c.completion_words.ensures ∙ ap₂ (λ (a b : ℕ). first_word ((a - 1) % b)) (omega arith) size))
+    (search rules, omega arith, device_closes _ _ _ _ _ me.rests.0 me.rests.1 me.rests.3 c.requires.taken (λ i. size i + (size i + (size i + at i))) (ap (λ l. get_or l 0 0) c.completion_words.ensures.words ∙ ap₂ (λ (a b : ℕ). first_word ((a - 1) % b)) (omega arith) size))
 
 pub store-requires-2 : goal.store-requires-2
 store-requires-2 c = let me = c.args.reader.now in let v = me.seat.me.0 in let id_is = me.seated ∙ sym (ap (λ q. q.shared.table_id) c.deref.ensures) in let size = ap (λ z. z.size) (sym me.made_is) in let many = ap (λ z. z.words) id_is in let wide = c.requires.wide in let low = mod-lt me.completed me.size.0 in
@@ -19,5 +19,5 @@ store-requires-2 c = let me = c.args.reader.now in let v = me.seat.me.0 in let i
       search rules,
       omega arith,
       device_completes _ _ _ _ _ (ap (λ m. m.0.serves) e ∙ me.rests.0) (ap (λ m. m.0.drives) e ∙ me.rests.1) (ap (λ m. m.0.device.at.closing) e) (ap (λ m. m.0.device.at.ahead) e ∙ c.requires.none) (ap (λ m. m.0.device.at.emptying) e ∙ me.rests.2) (λ i. sz i + (sz i + at i))
-          (ap (λ l. get_or l 1 0) c.completion_words.ensures ∙ ap completed_word (gen ∙ ap₂ generation_bit sz p2)),
+          (ap (λ l. get_or l 1 0) c.completion_words.ensures.words ∙ ap completed_word (gen ∙ ap₂ generation_bit sz p2)),
     )

@@ -38,14 +38,14 @@ piece_at-requires g c = let me = c.args.self.now in let v : TxKnown = me.seat.me
     let begins : p * v.made.piece ≤ length frame - first_size v.made = begins_in v.made (length frame) more p pos (omega arith) less in
     let times : p * c.stage.new.self.made.piece ≡ p * v.made.piece = ap (λ (m : TxMade). p * m.piece) (c.stage.ensures.same.0 ∙ sym me.made_is) in
     let size : c.first_size_of-first_size.result ≡ first_size v.made = c.first_size_of-first_size.ensures.value ∙ ap first_size (sym me.made_is) in
-    let long : length c.rest_of-rest.result.now ≡ length frame - c.first_size_of-first_size.result = ap length c.rest_of-rest.ensures ∙ length-drop c.first_size_of-first_size.result frame in record { begins = omega arith }
+    let long : length c.rest_of-rest.result.now ≡ length frame - c.first_size_of-first_size.result = ap length c.rest_of-rest.ensures.value ∙ length-drop c.first_size_of-first_size.result frame in record { begins = omega arith }
 
 pub loop-place-preserved : goal.loop-place-preserved
 loop-place-preserved g c = let me = c.args.self.now in let v : TxKnown = me.seat.me.0 in let frame : List ℕ = c.args.frame.now in let more : ℕ = c.args.count - 1 in let s : Sent = sent_as frame c.args.mark.now in let p : ℕ = c.loop-place.place in let less = c.loop-place-test.true in
     let inv = c.loop-place.invariant in let w : TxKnown = c.loop-place.self.seat.me.0 in let rest : List ℕ = drop (first_size v.made) frame in let size : ℕ = v.made.piece in
     let x : TxPiece = record { bytes = take size (drop (p * size) rest); last = is_zero (more - suc p); in_data = false; numbers = no_numbers } in
     let z : TxPiece = record { bytes = c.piece_at.result.now; last = c.ends-in-loop-place.result; in_data = next_in_data w.made w.driver.at.staged; numbers = numbers_of c.plain-plain.result } in
-    let piece = ap (λ (m : TxMade). m.piece) (c.stage.ensures.same.0 ∙ sym me.made_is) in let rest_is : c.rest_of-rest.result.now ≡ rest = c.rest_of-rest.ensures ∙ ap (λ (k : ℕ). drop k frame) (c.first_size_of-first_size.ensures.value ∙ ap first_size (sym me.made_is)) in
+    let piece = ap (λ (m : TxMade). m.piece) (c.stage.ensures.same.0 ∙ sym me.made_is) in let rest_is : c.rest_of-rest.result.now ≡ rest = c.rest_of-rest.ensures.value ∙ ap (λ (k : ℕ). drop k frame) (c.first_size_of-first_size.ensures.value ∙ ap first_size (sym me.made_is)) in
     let bytes : c.piece_at.result.now ≡ x.bytes = c.piece_at.ensures.value ∙ (λ i. take (piece i) (drop (p * piece i) (rest_is i))) in
     let last : c.ends-in-loop-place.result ≡ x.last = dite (ℕ_discrete c.args.count (p + 1 + 1)) (λ is. c.ends-in-loop-place.ensures.last is ∙ sym (zero_is (more - suc p) (omega arith))) (λ other. c.ends-in-loop-place.ensures.further (omega arith) ∙ sym (zero_not (more - suc p) (omega arith))) in
     let in_data : next_in_data w.made w.driver.at.staged ≡ false = ap (λ (u : TxKnown). next_in_data u.made u.driver.at.staged) inv.staged in

@@ -22,7 +22,7 @@ store-requires g c = let me = c.args.self.now in let v = me.seat.me.0 in let id_
     let lies_so = lies_as v me.made me.posted me.published c.goes_to_data-in_data.result me.made_is me.order.1 c.goes_to_data-in_data.ensures.first c.goes_to_data-in_data.ensures.later in let queue = ap (λ z. z.name.queue) (sym me.made_is) in (
       search rules,
       omega arith,
-      driver_opens g.C.TellsCompletions.told _ _ _ _ _ me.rests.0 me.rests.1 me.rests.2 me.rests.4 (omega arith) (ap₂ (λ (a b : ℕ). a + b) size at) (c.address_of.ensures ∙ (λ i. address (queue i) (lies_so i) (at i))),
+      driver_opens g.C.TellsCompletions.told _ _ _ _ _ me.rests.0 me.rests.1 me.rests.2 me.rests.4 (omega arith) (ap₂ (λ (a b : ℕ). a + b) size at) (c.address_of.ensures.value ∙ (λ i. address (queue i) (lies_so i) (at i))),
     )
 
 pub slot_mut-requires : goal.slot_mut-requires
