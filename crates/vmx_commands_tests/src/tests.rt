@@ -11,7 +11,8 @@ use vmx_commands::{Machine, State};
 use vmx_ends::{Ends, Fabric};
 use vmx_lists::ListFabric;
 use vmx_machine_cases::{
-    ACTIVATE_DEV, MAC, QUIESCE_DEV, RESET_DEV, Wanted, answers, ask, spoil, two_ends, two_queues,
+    ACTIVATE_DEV, MAC, QUIESCE_DEV, RESET_DEV, Wanted, answers, asks_all, holds_nothing, spoil,
+    two_ends, two_queues,
 };
 use vmx_regs::Bag;
 use vmx_shared_area::{Image, write};
@@ -39,35 +40,6 @@ const ACTIVE: [(u32, u32); 20] = [
     (0xf00d_0008, 3),
     (0xf00d_0009, 0xffff_ffff),
 ];
-
-/// The first number of a table that has another answer, and the bag.
-fn asks_all<F: Fabric>(
-    machine: &mut Machine<F>,
-    bag: Bag<Ends<F>>,
-    table: &[(u32, u32)],
-) -> (Option<u32>, Bag<Ends<F>>)
-    requires held { IsWhole (option_map handed_of (ends_of machine.old)) }
-    requires given { IsWhole (option_map handed_of (ends_in F.TxDevice.view F.RxDevice.view bag)) }
-    ensures held { IsWhole (option_map handed_of (ends_of machine.new)) }
-    ensures back { IsWhole (option_map handed_of (ends_in F.TxDevice.view F.RxDevice.view result.1)) }
-{
-    let mut bag = bag;
-    for (number, answer) in table {
-        let (value, back) = ask(machine, *number, bag);
-        bag = back;
-        if value != *answer {
-            return (Some(*number), bag);
-        }
-    }
-    (None, bag)
-}
-
-/// Whether a machine is without setup and ends.
-fn holds_nothing<F: Fabric>(machine: &mut Machine<F>) -> bool
-    ensures same { machine.new ≡ machine.old }
-{
-    machine.setup().is_none() && machine.ends().is_none() && machine.ends_mut().is_none()
-}
 
 /// Whether a machine has a setup of two transmit queues and of a receive mode.
 fn has_mode<F: Fabric>(machine: &Machine<F>, mode: u32) -> bool {

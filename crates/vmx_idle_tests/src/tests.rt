@@ -10,7 +10,9 @@ use std::test::Fail;
 use vmx_commands::{Machine, State};
 use vmx_ends::{Ends, Fabric, TxDevice};
 use vmx_lists::ListFabric;
-use vmx_machine_cases::{ACTIVATE_DEV, MAC, Wanted, answers, ask, spoil, two_ends, two_queues};
+use vmx_machine_cases::{
+    ACTIVATE_DEV, MAC, Wanted, answers, asks_all, holds_nothing, spoil, two_ends, two_queues,
+};
 use vmx_regs::Bag;
 use vmx_shared_area::{Image, write};
 
@@ -39,28 +41,6 @@ const IDLE: [(u32, u32); 21] = [
     (0xf00d_0009, 0xffff_ffff),
 ];
 
-/// The first number of a table that has another answer, and the bag.
-fn asks_all<F: Fabric>(
-    machine: &mut Machine<F>,
-    bag: Bag<Ends<F>>,
-    table: &[(u32, u32)],
-) -> (Option<u32>, Bag<Ends<F>>)
-    requires held { IsWhole (option_map handed_of (ends_of machine.old)) }
-    requires given { IsWhole (option_map handed_of (ends_in F.TxDevice.view F.RxDevice.view bag)) }
-    ensures held { IsWhole (option_map handed_of (ends_of machine.new)) }
-    ensures back { IsWhole (option_map handed_of (ends_in F.TxDevice.view F.RxDevice.view result.1)) }
-{
-    let mut bag = bag;
-    for (number, answer) in table {
-        let (value, back) = ask(machine, *number, bag);
-        bag = back;
-        if value != *answer {
-            return (Some(*number), bag);
-        }
-    }
-    (None, bag)
-}
-
 /// Gives a note of the first transmit end, and forgets it. Says whether there is such an end.
 fn note_first<F: Fabric>(machine: &mut Machine<F>) -> bool
     ensures setup { setup_of machine.new ≡ setup_of machine.old }
@@ -75,13 +55,6 @@ fn note_first<F: Fabric>(machine: &mut Machine<F>) -> bool
     let end = ends.tx.at_mut(0);
     let _note = end.note();
     true
-}
-
-/// Whether a machine is without setup and ends.
-fn holds_nothing<F: Fabric>(machine: &mut Machine<F>) -> bool
-    ensures same { machine.new ≡ machine.old }
-{
-    machine.setup().is_none() && machine.ends().is_none() && machine.ends_mut().is_none()
 }
 
 /// Activates an idle machine with images that it refuses, and gives it all commands of the table. Says whether all was answered so.

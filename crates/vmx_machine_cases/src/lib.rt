@@ -2,10 +2,15 @@
 //! machine whose contracts keep ends whole.
 #![tactic(auto)]
 
-ghost use Rattle.std.specs.Prelude.{◌≡◌, ◌<◌, true, option_map, IfOk};
+ghost use Rattle.std.specs.Prelude.{◌≡◌, ◌<◌, ◌≤◌, true, false, option_map, set, None, IfOk};
 ghost use Rattle.vmx_ends.specs.HandedEnds.{is_whole_tx, is_whole_rx};
 ghost use Rattle.vmx_device_state.specs.Deals.{IsWhole};
-ghost use Rattle.vmx_commands.specs.Views.{ends_view, ends_in, handed_of, ends_of};
+ghost use Rattle.vmx_shared_area.specs.declared.offsets.TheConstants.{IMAGE_SIZE};
+ghost use Rattle.vmx_shared_area.specs.declared.setup.TheConstants.{DEFAULT_TX_RING, DEFAULT_RX_RING, DEFAULT_MTU};
+ghost use Rattle.vmx_device_state.specs.DeviceState.{after_answer};
+ghost use Rattle.vmx_device_state.specs.Answers.{answer_to};
+ghost use Rattle.vmx_machine_state.specs.Views.{ends_view, ends_in, counts_in, handed_of, state_of, ends_of};
+ghost use Rattle.vmx_machine_state.specs.States.{state_name};
 
 use std::alloc::{AllocError, Global};
 use vmx_commands::{Machine, State};
@@ -27,7 +32,11 @@ pub const QUIESCE_DEV: u32 = 0xcafe_0001;
 pub const RESET_DEV: u32 = 0xcafe_0002;
 
 /// Two queues each way, and the defaults of a configuration.
-pub fn two_queues() -> Setup {
+pub fn two_queues() -> Setup
+    ensures queues { (result.tx_queues ≡ 2) × (result.rx_queues ≡ 2) }
+    ensures rings { (result.tx_ring ≡ DEFAULT_TX_RING) × (result.rx_ring1 ≡ DEFAULT_RX_RING) × (result.rx_ring2 ≡ DEFAULT_RX_RING) }
+    ensures plain { (result.mtu ≡ DEFAULT_MTU) × (result.rss ≡ None) × (result.tx_data ≡ false) × (result.rx_data ≡ false) × (result.strip ≡ false) }
+{
     let mut setup = Setup::by_default();
     setup.tx_queues = 2;
     setup.rx_queues = 2;
@@ -82,6 +91,8 @@ pub fn ask<F: Fabric>(
 ) -> (u32, Bag<Ends<F>>)
     requires held { IsWhole (option_map handed_of (ends_of machine.old)) }
     requires given { IsWhole (option_map handed_of (ends_in F.TxDevice.view F.RxDevice.view bag)) }
+    ensures answer { result.0 ≡ answer_to machine.old.mac (state_of machine.old) number bag.image (counts_in (ends_in F.TxDevice.view F.RxDevice.view bag)) }
+    ensures state { state_of machine.new ≡ after_answer (state_of machine.old) number bag.image result.0 }
     ensures held { IsWhole (option_map handed_of (ends_of machine.new)) }
     ensures back { IsWhole (option_map handed_of (ends_in F.TxDevice.view F.RxDevice.view result.1)) }
 {
@@ -105,6 +116,8 @@ pub fn answers<F: Fabric>(
 ) -> (bool, Bag<Ends<F>>)
     requires held { IsWhole (option_map handed_of (ends_of machine.old)) }
     requires given { IsWhole (option_map handed_of (ends_in F.TxDevice.view F.RxDevice.view bag)) }
+    ensures answer { result.0 ≡ true → answer_to machine.old.mac (state_of machine.old) number bag.image (counts_in (ends_in F.TxDevice.view F.RxDevice.view bag)) ≡ wanted.now.value }
+    ensures state { result.0 ≡ true → state_name (state_of machine.new) ≡ wanted.now.state }
     ensures held { IsWhole (option_map handed_of (ends_of machine.new)) }
     ensures back { IsWhole (option_map handed_of (ends_in F.TxDevice.view F.RxDevice.view result.1)) }
 {
@@ -113,12 +126,49 @@ pub fn answers<F: Fabric>(
     (same, bag)
 }
 
-fn is_wanted(value: u32, ends: bool, state: State, wanted: &Wanted) -> bool {
+fn is_wanted(value: u32, ends: bool, state: State, wanted: &Wanted) -> bool
+    ensures value { result ≡ true → value ≡ wanted.now.value }
+    ensures ends { result ≡ true → ends ≡ wanted.now.ends }
+    ensures state { result ≡ true → state ≡ wanted.now.state }
+{
     value == wanted.value && ends == wanted.ends && state == wanted.state
 }
 
+/// Gives all commands of a table, and answers the first of them that has another answer, and the bag.
+pub fn asks_all<F: Fabric>(
+    machine: &mut Machine<F>,
+    bag: Bag<Ends<F>>,
+    table: &[(u32, u32)],
+) -> (Option<u32>, Bag<Ends<F>>)
+    requires held { IsWhole (option_map handed_of (ends_of machine.old)) }
+    requires given { IsWhole (option_map handed_of (ends_in F.TxDevice.view F.RxDevice.view bag)) }
+    ensures held { IsWhole (option_map handed_of (ends_of machine.new)) }
+    ensures back { IsWhole (option_map handed_of (ends_in F.TxDevice.view F.RxDevice.view result.1)) }
+{
+    let mut bag = bag;
+    for (number, answer) in table {
+        let (value, back) = ask(machine, *number, bag);
+        bag = back;
+        if value != *answer {
+            return (Some(*number), bag);
+        }
+    }
+    (None, bag)
+}
+
+/// Whether a machine is without setup and ends.
+pub fn holds_nothing<F: Fabric>(machine: &mut Machine<F>) -> bool
+    ensures same { machine.new ≡ machine.old }
+    ensures none { result ≡ true → ends_of machine.old ≡ None }
+{
+    machine.setup().is_none() && machine.ends().is_none() && machine.ends_mut().is_none()
+}
+
 /// Changes one byte of an image, where it has it.
-pub fn spoil(image: &mut Image, at: usize, byte: u8) {
+pub fn spoil(image: &mut Image, at: usize, byte: u8)
+    ensures spoilt { at < IMAGE_SIZE → image.new ≡ set image.old at byte }
+    ensures beyond { IMAGE_SIZE ≤ at → image.new ≡ image.old }
+{
     let bytes = image.bytes_mut();
     if at < bytes.len() {
         bytes[at] = byte;
