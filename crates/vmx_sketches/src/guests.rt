@@ -1,4 +1,6 @@
 //! The guests of the cases, and their addresses.
+ghost use Rattle.std.specs.Prelude.{◌≡◌};
+ghost use Rattle.vmx_sketches.specs.declared.frames.Frames.TheVariants.{Same};
 
 use crate::frames::Frames;
 use crate::sketch::{Script, Sketch};
@@ -37,7 +39,9 @@ pub const QUIET: Sketch = Sketch {
 };
 
 /// A guest that sends so many frames of so many bytes to an address.
-pub fn sends(count: u32, to: [u8; ADDRESS_LEN], bytes: u32) -> Sketch {
+pub fn sends(count: u32, to: [u8; ADDRESS_LEN], bytes: u32) -> Sketch
+    ensures frames { result.frames ≡ Same count to bytes }
+{
     Sketch {
         frames: Frames::Same { count, to, bytes },
         ..QUIET
@@ -45,7 +49,9 @@ pub fn sends(count: u32, to: [u8; ADDRESS_LEN], bytes: u32) -> Sketch {
 }
 
 /// The same with the greatest MTU and receive rings of 32 descriptors.
-pub fn large(sketch: Sketch) -> Sketch {
+pub fn large(sketch: Sketch) -> Sketch
+    ensures large { result ≡ record sketch { ring = 32; mtu = 9000 } }
+{
     Sketch {
         ring: 32,
         mtu: 9000,

@@ -1,5 +1,5 @@
 //! Small plans by their sketches.
-ghost use Rattle.std.specs.Prelude.{◌≡◌, ◌<◌, ◌≤◌, ◌%◌, true};
+ghost use Rattle.std.specs.Prelude.{◌≡◌, ◌<◌, ◌≤◌, ◌%◌, ◌∷◌, [], true};
 ghost use Rattle.vmx_shared_area.specs.Tells.{EntriesBelow};
 ghost use Rattle.vmx_model.specs.Ranges.{fits_table as fits_table_by};
 ghost use Rattle.std.specs.Option.{ForSome};
@@ -54,7 +54,9 @@ pub struct Sketch {
 }
 
 /// The address of the guest at a port.
-pub fn mac_of(port: u8) -> [u8; ADDRESS_LEN] {
+pub fn mac_of(port: u8) -> [u8; ADDRESS_LEN]
+    ensures value { result ≡ 0x00 ∷ 0x50 ∷ 0x56 ∷ 0x00 ∷ 0x00 ∷ port ∷ [] }
+{
     [0x00, 0x50, 0x56, 0x00, 0x00, port]
 }
 

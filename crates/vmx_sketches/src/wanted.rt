@@ -1,11 +1,15 @@
 //! The fates that a case wants for the copies of its plan.
+ghost use Rattle.std.specs.Prelude.{◌≡◌};
+ghost use Rattle.vmx_model.specs.declared.journal.Fate.TheVariants.{Up, Filtered, NoBuffer};
 
 use vmx_filters::Rule;
 use vmx_io::List;
 use vmx_model::Fate;
 
 /// The frame handed up of this place of queue 0 of activation 0.
-pub fn up(place: u64) -> Fate {
+pub fn up(place: u64) -> Fate
+    ensures value { result ≡ Up 0 0 place }
+{
     Fate::Up {
         activation: 0,
         queue: 0,
@@ -14,7 +18,9 @@ pub fn up(place: u64) -> Fate {
 }
 
 /// The frame handed up first of a queue of an activation.
-pub fn up_on(activation: u32, queue: u32) -> Fate {
+pub fn up_on(activation: u32, queue: u32) -> Fate
+    ensures value { result ≡ Up activation queue 0 }
+{
     Fate::Up {
         activation,
         queue,
@@ -23,12 +29,16 @@ pub fn up_on(activation: u32, queue: u32) -> Fate {
 }
 
 /// A frame that this rule refused.
-pub fn filtered(rule: Rule) -> Fate {
+pub fn filtered(rule: Rule) -> Fate
+    ensures value { result ≡ Filtered rule }
+{
     Fate::Filtered { rule }
 }
 
 /// A descriptor of ring 1 or 2 of the first queue was missed at this position, by this look.
-pub fn missed(ring: u32, position: u64, look: u64) -> Fate {
+pub fn missed(ring: u32, position: u64, look: u64) -> Fate
+    ensures value { result ≡ NoBuffer 0 0 ring position look }
+{
     Fate::NoBuffer {
         activation: 0,
         queue: 0,
@@ -68,7 +78,7 @@ fn later(fate: Fate, by: u64) -> Fate {
 }
 
 /// Whether each copy has one fate, and these are they, so many of each.
-pub fn are(fates: &List<List<Fate>>, wanted: &[(Fate, u64)]) -> bool {
+pub(crate) fn are(fates: &List<List<Fate>>, wanted: &[(Fate, u64)]) -> bool {
     let mut at = 0;
     for (fate, count) in wanted {
         for k in 0..*count {

@@ -9,10 +9,10 @@ const HEADER: [u8; 24] = [
 ];
 
 /// A captured frame: its second, the byte that fills it, its length.
-pub type Filled = (u32, u8, u32);
+pub(crate) type Filled = (u32, u8, u32);
 
 /// A capture of these frames, each 7 microseconds after its second.
-pub fn capture(alloc: Global, frames: &[Filled]) -> Result<Vec<u8>, AllocError> {
+pub(crate) fn capture(alloc: Global, frames: &[Filled]) -> Result<Vec<u8>, AllocError> {
     let mut out = Vec::from_slice(alloc, &HEADER)?;
     for (second, fill, len) in frames {
         out.extend_from_slice(&second.to_le_bytes())?;
@@ -27,14 +27,14 @@ pub fn capture(alloc: Global, frames: &[Filled]) -> Result<Vec<u8>, AllocError> 
 }
 
 /// The first `len` of these bytes.
-pub fn front(alloc: Global, bytes: &[u8], len: usize) -> Result<Vec<u8>, AllocError> {
+pub(crate) fn front(alloc: Global, bytes: &[u8], len: usize) -> Result<Vec<u8>, AllocError> {
     let mut out = Vec::from_slice(alloc, bytes)?;
     out.truncate(len);
     Ok(out)
 }
 
 /// The words of a line, each of which ends at a space.
-pub fn words_of(alloc: Global, line: &str) -> Result<Vec<String>, AllocError> {
+pub(crate) fn words_of(alloc: Global, line: &str) -> Result<Vec<String>, AllocError> {
     let mut words = Vec::new(alloc);
     if !line.is_empty() {
         for word in line.split(' ') {
@@ -45,7 +45,7 @@ pub fn words_of(alloc: Global, line: &str) -> Result<Vec<String>, AllocError> {
 }
 
 /// The one file `in`.
-pub fn files_of(alloc: Global, bytes: Vec<u8>) -> Result<List<File>, AllocError> {
+pub(crate) fn files_of(alloc: Global, bytes: Vec<u8>) -> Result<List<File>, AllocError> {
     let mut files = Vec::new(alloc);
     files.push(File {
         name: Text::from_str(alloc, "in")?,

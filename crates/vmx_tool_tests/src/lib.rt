@@ -4,11 +4,9 @@
 //! Nothing stands on this crate but its tests.
 #![tactic(auto)]
 
+#[cfg(test)]
 mod captures;
+#[cfg(test)]
 mod runs;
-
-pub use captures::{Filled, capture, files_of, front, words_of};
-pub use runs::{Ended, ends_so, pair, ran, serial};
-
 #[cfg(test)]
 mod tests;

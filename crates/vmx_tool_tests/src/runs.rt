@@ -7,7 +7,7 @@ use vmx_tool::{NoGate, Outcome, Record, run, run_serial, wants_threads};
 
 /// How `pair in out` ended: its number, the console's text, what stands under `out`, the record.
 #[derive(Drop)]
-pub struct Ended {
+pub(crate) struct Ended {
     pub number: u8,
     pub text: Vec<u8>,
     pub out: Option<Vec<u8>>,
@@ -15,7 +15,7 @@ pub struct Ended {
 }
 
 /// A run. Nothing is said of it: the tests look at what it left.
-pub fn ran<S: Shelf, C: Console>(
+pub(crate) fn ran<S: Shelf, C: Console>(
     alloc: Global,
     words: &[String],
     shelf: &mut S,
@@ -49,7 +49,7 @@ fn saved(alloc: Global, shelf: &mut SteadyShelf) -> Option<Vec<u8>> {
 }
 
 /// `pair in out` over these bytes as the file `in`.
-pub fn pair(alloc: Global, bytes: Vec<u8>) -> Result<Ended, AllocError> {
+pub(crate) fn pair(alloc: Global, bytes: Vec<u8>) -> Result<Ended, AllocError> {
     let words = words_of(alloc, "pair in out")?;
     let mut shelf = SteadyShelf::new(files_of(alloc, bytes)?);
     let mut console = SteadyConsole::new(alloc);
@@ -63,7 +63,12 @@ pub fn pair(alloc: Global, bytes: Vec<u8>) -> Result<Ended, AllocError> {
 }
 
 /// Whether a serial `pair in out` over these bytes ends with this number, with OUT there at 0 alone, and the console's text begins so.
-pub fn serial(alloc: Global, bytes: Vec<u8>, number: u8, line: &str) -> Result<bool, AllocError> {
+pub(crate) fn serial(
+    alloc: Global,
+    bytes: Vec<u8>,
+    number: u8,
+    line: &str,
+) -> Result<bool, AllocError> {
     let words = words_of(alloc, "pair in out")?;
     let mut shelf = SteadyShelf::new(files_of(alloc, bytes)?);
     let mut console = SteadyConsole::new(alloc);
@@ -79,7 +84,7 @@ pub fn serial(alloc: Global, bytes: Vec<u8>, number: u8, line: &str) -> Result<b
 
 /// A run of a line's words, where calls of the shelf and writes to the console fail by their numbers: whether it ends with this number and this
 /// text on the console, with a record at `Ok` and `WriteFault` alone.
-pub fn ends_so(
+pub(crate) fn ends_so(
     alloc: Global,
     bytes: Vec<u8>,
     line: &str,
