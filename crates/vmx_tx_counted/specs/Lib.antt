@@ -1,0 +1,4 @@
+pub mod Counting
+pub mod CountingLaws
+pub mod Tells
+pub mod Ends
