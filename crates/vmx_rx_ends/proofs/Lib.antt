@@ -1,0 +1,5 @@
+mod Deliveries
+mod Follows
+mod Delivers
+mod Receives
+mod Begins

@@ -1,0 +1,28 @@
+//! A look at a queue's words from outside.
+ghost use Rattle.std.specs.Prelude.{◌≡◌, ◌+◌, ◌*◌, ◌<◌};
+ghost use Rattle.vmx_rx_ring.specs.Words.{count};
+ghost use Rattle.vmx_rx_ends.specs.Views.{HasWords};
+
+use crate::reader::RxReader;
+use atomic_table::Play;
+use vmx_rx_ring::{Buffer, Known, TellsVisible};
+
+/// A load that changes nothing.
+struct Peek;
+
+impl Play<Buffer, Known> for Peek {
+    ghost use Rattle.vmx_rx_ring.specs.Tells.{peeked};
+
+    ghost then = { peeked };
+}
+
+/// The word of the queue's table with this index, below four times the descriptors of both rings, as it stands between two
+/// calls of the two ends.
+pub fn word_of<C: TellsVisible>(reader: &mut RxReader<C>, index: u32) -> u64
+    requires words { HasWords C.counted reader.old.seat.table_id reader.old.shape }
+    requires index { index < 4 * count reader.old.seat.me.0.made }
+    ensures same { (reader.new.seat.me ≡ reader.old.seat.me) × (reader.new.seat.table_id ≡ reader.old.seat.table_id) × (reader.new.shape ≡ reader.old.shape) }
+{
+    let shared = &reader.table.shared;
+    shared.load::<Peek>(&mut reader.seat, index as usize)
+}

@@ -1,0 +1,11 @@
+pub mod Bits
+pub mod Layouts
+pub mod Risings
+pub mod Flats
+pub mod WordMoves
+pub mod HomeMoves
+pub mod Views
+pub mod DeviceLooks
+pub mod DeviceStores
+pub mod DriverSteps
+pub mod Parts

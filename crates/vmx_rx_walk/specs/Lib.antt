@@ -1,0 +1,4 @@
+pub mod Walking
+pub mod Staging
+pub mod Reading
+pub mod Looking
