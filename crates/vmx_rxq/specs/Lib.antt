@@ -1,0 +1,4 @@
+pub mod Ends
+pub mod NoteView
+pub mod FactsView
+pub mod Laws

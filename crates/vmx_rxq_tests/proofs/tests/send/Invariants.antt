@@ -1,0 +1,16 @@
+use Rattle.std.proofs.Common.{◌≡◌, ◌≤◌, ◌*◌, length}
+use Rattle.vmx_ends.specs.Receive.{consumed1, consumed2}
+use Rattle.vmx_rxq.specs.Ends.{device_view}
+use Rattle.vmx_rxq_tests.proofs.tests.send.Given as goal
+
+abbrev pub invariant-loop-tries : goal.invariant-loop-tries
+invariant-loop-tries l = record {
+  key : (device_view l.device).key ≡ (device_view l.initial.device).key;
+  given : (device_view l.device).notes_given ≡ (device_view l.initial.device).notes_given;
+  heard : (device_view l.device).notes_heard ≡ (device_view l.initial.device).notes_heard;
+  delivered : length (device_view l.device).delivered ≤ l.tries;
+  refused : length (device_view l.device).refused ≤ l.tries;
+  one : consumed1 (device_view l.device) ≤ 16 * l.tries;
+  two : consumed2 (device_view l.device) ≤ 16 * l.tries;
+  number : l.number ≤ l.tries;
+}
