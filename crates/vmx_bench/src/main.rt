@@ -11,6 +11,9 @@ mod samples;
 
 use anyhow::{Result, bail};
 use std::env;
+use vmx_queue_bench::{rx_queue, tx_queue};
+
+const USAGE: &str = "usage: vmx_bench [samples FILE | hash N | link N | tx N | rx N]";
 
 fn main(rt: HostRuntime) -> Result<()> {
     let mut words = env::args(&rt)?.skip(1);
@@ -18,7 +21,7 @@ fn main(rt: HostRuntime) -> Result<()> {
         return Ok(());
     };
     let Some(what) = words.next() else {
-        bail!("usage: vmx_bench [samples FILE | hash N | link N]");
+        bail!("{USAGE}");
     };
     match (word.as_str(), what.as_str().parse::<u32>()) {
         ("samples", _) => samples::write(&rt, what.as_str())?,
@@ -27,7 +30,9 @@ fn main(rt: HostRuntime) -> Result<()> {
             println!(rt; "{all}")?;
         }
         ("link", Ok(count)) => link::measure(&rt, rt.alloc(), count)?,
-        _ => bail!("usage: vmx_bench [samples FILE | hash N | link N]"),
+        ("tx", Ok(count)) => tx_queue::measure(&rt, rt.alloc(), count)?,
+        ("rx", Ok(count)) => rx_queue::measure(&rt, rt.alloc(), count)?,
+        _ => bail!("{USAGE}"),
     }
     Ok(())
 }
