@@ -1,0 +1,3 @@
+pub mod EndViews
+pub mod Pushes
+pub mod Forms

@@ -1,0 +1,10 @@
+pub mod Looks
+pub mod Interrupts
+pub mod Bells
+pub mod Ports
+pub mod Links
+pub mod Arrivals
+pub mod Notes
+pub mod Commands
+pub mod Queues
+pub mod PortLaws
