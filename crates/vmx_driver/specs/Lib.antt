@@ -1,0 +1,11 @@
+pub mod Stocked
+pub mod Acts
+pub mod Notes
+pub mod Holding
+pub mod Deciding
+pub mod Following
+pub mod Noticing
+pub mod Seeing
+pub mod Polling
+pub mod Beginning
+pub mod InTurn
