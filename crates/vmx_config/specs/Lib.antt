@@ -1,0 +1,5 @@
+pub mod Script
+pub mod Guest
+pub mod Whole
+pub mod Ranges
+pub mod Plans
