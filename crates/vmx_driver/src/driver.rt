@@ -6,6 +6,7 @@ ghost use Rattle.vmx_model.specs.declared.guest.GuestPlan.{GuestPlan as GuestVal
 ghost use Rattle.vmx_model.specs.Bags.{DriverLeaves};
 ghost use Rattle.vmx_model.specs.Views.{GuestView};
 ghost use Rattle.vmx_driver_steps.specs.Progress.{due_of, is_over};
+ghost use Rattle.vmx_driver_steps.specs.Driver.{Keeps, IsSettled};
 ghost use Rattle.vmx_driver_steps.specs.Driving.{new_driver};
 ghost use Rattle.vmx_driver.specs.Stocked.{IsClosable, closed_as};
 
@@ -143,9 +144,19 @@ impl<'a, F: Fabric> Driver<'a, F> {
         vmx_driver_steps::due(self.plan, &self.at, self.regs.outstanding())
     }
 
+    /// Whether a command was sent whose answer was not taken yet.
+    pub fn outstanding(&self) -> bool
+        ensures outstanding { result ≡ is_some self.now.driver.calls.asked }
+    {
+        self.regs.outstanding()
+    }
+
     /// The frames handed up, in order.
     pub fn received(&self) -> &[Received]
         ensures received { result.now ≡ self.now.driver.received }
+        // What always holds of a driver; and it stands at an action, at a frame that is sent, or at the end of its plan.
+        ensures keeps { Keeps self.now.driver }
+        ensures settled { IsSettled self.now.driver }
     {
         self.received.as_slice()
     }
