@@ -9,7 +9,7 @@ ghost use Rattle.vmx_model.specs.declared.journal.Entry.{Entry as EntryValue};
 ghost use Rattle.vmx_model.specs.Journal.{Beside};
 ghost use Rattle.vmx_model.specs.Views.{GuestView};
 ghost use Rattle.vmx_model.specs.Bags.{EachQueue, DeviceLeaves};
-ghost use Rattle.vmx_device_laws.specs.Views.{DeviceView, AreWhole};
+ghost use Rattle.vmx_device_laws.specs.Views.{DeviceView, AreWhole, tx_held, rx_held};
 ghost use Rattle.vmx_device_laws.specs.Keeps.{Keeps};
 ghost use Rattle.vmx_device_laws.specs.New.{IsNewOut, IsNewIn, new_device};
 ghost use Rattle.vmx_device_laws.specs.Steps.{TurnsOnce, FindsNothing, worked};
@@ -19,6 +19,7 @@ ghost use Rattle.vmx_device.specs.Rest.{is_at_rest};
 ghost use Rattle.vmx_device.specs.declared.growing.TheConstants.{TURN_ENTRIES};
 ghost use Rattle.vmx_device_laws.specs.Leaves.{HasEnded, IsOfDevice, LinksSay};
 
+use crate::counting::{rx_queues, tx_queues};
 use crate::growing::grow;
 use crate::inner::Inner;
 use crate::looking::look_at_all;
@@ -121,6 +122,27 @@ impl<F: Fabric> Device<F> {
             &mut self.inner.copies,
         )?;
         Ok(turn_of(look_at_all(&mut self.inner)))
+    }
+
+    /// Its port at the switch.
+    pub fn port(&self) -> u32
+        ensures port { result ≡ self.now.port }
+    {
+        self.inner.port
+    }
+
+    /// How many transmit queue ends it holds.
+    pub fn tx_queues(&self) -> u32
+        ensures count { result ≡ tx_held self.now.machine.active }
+    {
+        tx_queues(&self.inner.machine)
+    }
+
+    /// How many receive queue ends it holds.
+    pub fn rx_queues(&self) -> u32
+        ensures count { result ≡ rx_held self.now.machine.active }
+    {
+        rx_queues(&self.inner.machine)
     }
 
     /// All that the device did, in order.

@@ -9,7 +9,10 @@ use vmx_model::Journal;
 /// The most copies of frames that a turn makes: 16 of each of 8 transmit queues.
 pub(crate) const TURN_COPIES: usize = 128;
 
-/// The most entries that a turn adds: a command's, those of the copies, and one of each of 15 links.
+/// The most packets that a turn handles: one of each link from another port.
+pub(crate) const TURN_PACKETS: usize = 15;
+
+/// The most entries that a turn adds: a command's, those of the copies, and those of the packets.
 pub const TURN_ENTRIES: usize = 144;
 
 /// Makes room for a turn; the journal stays as it was.

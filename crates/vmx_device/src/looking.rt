@@ -2,6 +2,8 @@
 ghost use Rattle.std.specs.Prelude.{◌≡◌, ◌<◌, ◌≤◌, ◌^◌, length};
 ghost use Rattle.vmx_device_laws.specs.Views.{tx_held, AreWhole};
 ghost use Rattle.vmx_device_laws.specs.Steps.{CommandStep, BellStep, TxStep, TxSteps, InStep, InSteps, TurnsOnce};
+ghost use Rattle.vmx_switch.specs.declared.answer.TheConstants.{MAX_PORTS};
+ghost use Rattle.vmx_device.specs.declared.growing.TheConstants.{TURN_COPIES, TURN_PACKETS, TURN_ENTRIES};
 ghost use Rattle.vmx_device.specs.Holds.{inner_view, Holds, LeavesRoom};
 
 use crate::counting::{count_taken, either, rx_queues, tx_queues};
@@ -58,10 +60,10 @@ pub(crate) fn look_tx<F: Fabric>(inner: &mut Inner<F>, queue: u32) -> bool
     requires holds { Holds inner.old }
     requires queue { queue < tx_held inner.old.machine.active }
     requires few { length inner.old.journal.entries.0 < 2 ^ 57 }
-    requires room { (16 ≤ inner.old.journal.entries.1) × (16 ≤ length inner.old.copies) }
+    requires room { (MAX_PORTS ≤ inner.old.journal.entries.1) × (MAX_PORTS ≤ length inner.old.copies) }
     ensures step { TxStep queue result (inner_view inner.old) (inner_view inner.new) }
     ensures holds { Holds inner.new }
-    ensures room { LeavesRoom 16 0 16 inner.old inner.new }
+    ensures room { LeavesRoom MAX_PORTS 0 MAX_PORTS inner.old inner.new }
 {
     if inner.machine.stopped(Side::Tx, queue).is_some() {
         return false;
@@ -105,10 +107,10 @@ pub(crate) fn look_tx<F: Fabric>(inner: &mut Inner<F>, queue: u32) -> bool
 pub(crate) fn look_at_queues<F: Fabric>(inner: &mut Inner<F>) -> bool
     requires holds { Holds inner.old }
     requires few { length inner.old.journal.entries.0 < 2 ^ 56 }
-    requires room { (128 ≤ inner.old.journal.entries.1) × (128 ≤ length inner.old.copies) }
+    requires room { (TURN_COPIES ≤ inner.old.journal.entries.1) × (TURN_COPIES ≤ length inner.old.copies) }
     ensures steps { TxSteps (tx_held inner.old.machine.active) result (inner_view inner.old) (inner_view inner.new) }
     ensures holds { Holds inner.new }
-    ensures room { LeavesRoom 128 0 128 inner.old inner.new }
+    ensures room { LeavesRoom TURN_COPIES 0 TURN_COPIES inner.old inner.new }
 {
     let mut found = false;
     let queues = tx_queues(&inner.machine);
@@ -154,10 +156,10 @@ pub(crate) fn look_in<F: Fabric>(inner: &mut Inner<F>, index: u32) -> bool
 pub(crate) fn look_at_links<F: Fabric>(inner: &mut Inner<F>) -> bool
     requires holds { Holds inner.old }
     requires few { length inner.old.journal.entries.0 < 2 ^ 56 }
-    requires room { 15 ≤ inner.old.journal.entries.1 }
+    requires room { TURN_PACKETS ≤ inner.old.journal.entries.1 }
     ensures steps { InSteps (length inner.old.input) result (inner_view inner.old) (inner_view inner.new) }
     ensures holds { Holds inner.new }
-    ensures room { LeavesRoom 15 0 0 inner.old inner.new }
+    ensures room { LeavesRoom TURN_PACKETS 0 0 inner.old inner.new }
 {
     let mut found = false;
     let links = in_links(inner);
@@ -171,7 +173,7 @@ pub(crate) fn look_at_links<F: Fabric>(inner: &mut Inner<F>) -> bool
 fn in_links<F: Fabric>(inner: &Inner<F>) -> u32
     requires holds { Holds inner.now }
     ensures count { result ≡ length inner.now.input }
-    ensures few { result ≤ 15 }
+    ensures few { result ≤ TURN_PACKETS }
 {
     inner.input.len() as u32
 }
@@ -181,10 +183,10 @@ pub(crate) fn look_at_all<F: Fabric>(inner: &mut Inner<F>) -> bool
     requires holds { Holds inner.old }
     requires whole { AreWhole (inner_view inner.old) }
     requires few { (length inner.old.journal.entries.0 < 2 ^ 55) × (length (inner_view inner.old).calls.served < 2 ^ 31) }
-    requires room { (144 ≤ inner.old.journal.entries.1) × (1 ≤ inner.old.journal.setups.1) × (128 ≤ length inner.old.copies) }
+    requires room { (TURN_ENTRIES ≤ inner.old.journal.entries.1) × (1 ≤ inner.old.journal.setups.1) × (TURN_COPIES ≤ length inner.old.copies) }
     ensures once { TurnsOnce result (inner_view inner.old) (inner_view inner.new) }
     ensures holds { Holds inner.new }
-    ensures room { LeavesRoom 144 1 128 inner.old inner.new }
+    ensures room { LeavesRoom TURN_ENTRIES 1 TURN_COPIES inner.old inner.new }
     ensures whole { AreWhole (inner_view inner.new) }
 {
     let answered = look_command(inner);

@@ -1,7 +1,7 @@
 //! Calls on notes: each is `note` or `hear` of the named end. None takes memory.
 ghost use Rattle.std.specs.Prelude.{◌≡◌, ◌<◌, ◌≢◌, ℕ, true, false, length, Some, slice_get, slice_set, suc};
 ghost use Rattle.vmx_regs.specs.Ends.{note_view, note_key, note_masks, IsOfDriver};
-ghost use Rattle.vmx_regs.specs.Rule.{told_device, device_note, hears_driver};
+ghost use Rattle.vmx_regs.specs.Rule.{told_device, device_note, hears_driver, DeviceKnows};
 ghost use Rattle.vmx_regs.specs.Masks.{hears_masks};
 ghost use Rattle.vmx_device_looks.specs.Looks.{TxAt, RxAt};
 ghost use Rattle.vmx_device_looks.specs.Notes.{NotesTx, HearsTx, FitsTx, NotesRx, HearsRx, FitsRx};
@@ -32,6 +32,9 @@ impl<F: Fabric> Device<F> {
         requires pair { note_key note ≡ self.old.key }
         requires driver { IsOfDriver note }
         ensures heard { self.new ≡ record self.old { calls = hears_driver self.old.calls (note_view note); masks = hears_masks self.old.masks (note_masks note) } }
+        // The device has answered all that the driver took, and of the commands sent and those seen one list is a prefix of the
+        // other, by at most one command.
+        ensures knows { DeviceKnows self.new.calls }
     {
         self.inner.regs.hear(note);
     }

@@ -23,4 +23,5 @@ pub returns : goal.returns
 returns g c = record {
   heard = (λ i. record (inner_view c.self.inside.inner) { key = c.hear.ensures.key i; calls = c.hear.ensures.view i; masks = c.hear.ensures.masks i })
       ∙ ap (λ (d : DeviceView). record d { calls = hears_driver d.calls (note_view c.args.note); masks = hears_masks d.masks (note_masks c.args.note) }) c.self.view_is;
+  knows = c.hear.ensures.knows;
 }
