@@ -1,0 +1,117 @@
+-- How far the guests stand from their first number to their last, and the end of the run.
+use Rattle.std.proofs.Common.{◌≡◌, ◌≢◌, ℕ, zero, suc, ◌+◌, ◌<◌, ◌≤◌, max, List, [], ◌∷◌, length, map, drop, refl, ap, sym, ◌∙◌, arith, subst, Some, inl, inr}
+use Rattle.std.specs.List.{slice_get}
+use Rattle.std.proofs.lemmas.Bool.Decides.{eqb_tells}
+use Rattle.vmx_model.specs.declared.plan.Plan.{Plan}
+use Rattle.vmx_model.specs.declared.guest.GuestPlan.{GuestPlan}
+use Rattle.vmx_model.specs.declared.deeds.Action.{Action}
+use Rattle.vmx_model.specs.Serial.{World, Seat, closed, last_at, last_number, rounds, start, serial_run}
+use Rattle.vmx_model.specs.Turns.{IsReady}
+use Rattle.vmx_model.proofs.Ready.{ready_at, closed_to, closed_all}
+use Rattle.vmx_replay_order.specs.Runs.{RunView, changes}
+use Rattle.vmx_replay_order.specs.Orders.{closes_all}
+use Rattle.vmx_replay_order.specs.Standing.{AreFrom, IsAt, Stands, StandFrom, StandBelow, IsOver, OthersStand}
+
+-- ------------------------------------------------------------ the start
+
+from_first : (acts : List Action) → AreFrom 0 acts
+from_first [] = tt
+from_first (a ∷ acts) = (omega arith, from_first acts)
+
+pub at_first : (p : GuestPlan) (k : ℕ) → k ≡ 0 → IsAt 0 p k
+at_first p k e = rw e (record { behind = tt; ahead = from_first p.script })
+
+-- ------------------------------------------------------------ one guest comes through its turn
+
+stands_still : (n port h : ℕ) (old new : RunView) → OthersStand port old new → h ≢ port → Stands n h old → Stands n h new
+stands_still n port h old new o away s = record {
+  begun = λ p is. subst (IsAt n p) (sym (o.reached h away)) (s.begun p (ap (λ (plan : Plan). slice_get plan.guests h) (sym o.plan) ∙ is));
+  passed = o.passed h away ∙ s.passed;
+}
+
+pub from_next : (n port : ℕ) (old new : RunView) → OthersStand port old new → StandFrom n port old → StandFrom n (port + 1) new
+from_next n port old new o s = λ h le lt. stands_still n port h old new o (λ e. absurd (omega (arith, le, e))) (s h (omega (arith, le)) (subst (λ (plan : Plan). h < length plan.guests) o.plan lt))
+
+pub below_next : (n port : ℕ) (old new : RunView) → OthersStand port old new → Stands n port new → StandBelow n port old → StandBelow n (port + 1) new
+below_next n port old new o here s = λ h lt. elim (eqb_tells h port) [
+  | inl w ↦ subst (λ (k : ℕ). Stands n k new) (sym w.1) here
+  | inr w ↦ (let ne = w.1 in stands_still n port h old new o ne (s h (omega (arith, lt, ne))))
+]
+
+-- ------------------------------------------------------------ the end
+
+last_past : (n : ℕ) (acts : List Action) → last_at acts ≤ n → AreFrom n acts → length acts ≡ 0
+last_past n [] le h = refl
+last_past n (a ∷ rest) le h = let first = h.0 in absurd (omega (arith, le, first))
+
+last_drop : (k : ℕ) (acts : List Action) → last_at (drop k acts) ≤ last_at acts
+last_drop zero acts = omega arith
+last_drop (suc k) [] = omega arith
+last_drop (suc k) (a ∷ rest) = let le = last_drop k rest in omega (arith, le)
+
+none_left : {X : Type 0} (k : ℕ) (xs : List X) → length (drop k xs) ≡ 0 → length xs ≤ k
+none_left zero xs e = omega (arith, e)
+none_left (suc k) [] e = omega arith
+none_left (suc k) (x ∷ xs) e = let le = none_left k xs e in omega (arith, le)
+
+most_of : (a b c : ℕ) → (a ≤ max (max a b) c) × (b ≤ max (max a b) c) × (c ≤ max (max a b) c)
+most_of a b c = (omega arith, omega arith, omega arith)
+
+last_cons : (q : GuestPlan) (gs : List GuestPlan) → (length q.capture.records ≤ last_number (q ∷ gs)) × (last_at q.script ≤ last_number (q ∷ gs)) × (last_number gs ≤ last_number (q ∷ gs))
+last_cons q gs = most_of (length q.capture.records) (last_at q.script) (last_number gs)
+
+rises_to : (a b c : ℕ) → a ≤ b → b ≤ c → a ≤ c
+rises_to a b c h k = omega (arith, h, k)
+
+same_below : (a b c : ℕ) → a ≡ b → a ≤ c → b ≤ c
+same_below a b c h k = omega (arith, h, k)
+
+same_item : (q p : GuestPlan) → Some q ≡ Some p → q ≡ p
+same_item q p is = cc is
+
+none_there : (g : ℕ) (p : GuestPlan) → slice_get [] g ≡ Some p → ⊥
+none_there g p is = absurd (cc is)
+
+-- what the last number of a plan is behind
+abbrev IsBehind : List GuestPlan → GuestPlan → Type 0
+IsBehind gs p = (length p.capture.records ≤ last_number gs) × (last_at p.script ≤ last_number gs)
+
+last_here : (q p : GuestPlan) (gs : List GuestPlan) → q ≡ p → IsBehind (q ∷ gs) p
+last_here q p gs e = (
+  same_below (length q.capture.records) (length p.capture.records) (last_number (q ∷ gs)) (ap (λ (x : GuestPlan). length x.capture.records) e) (last_cons q gs).0,
+  same_below (last_at q.script) (last_at p.script) (last_number (q ∷ gs)) (ap (λ (x : GuestPlan). last_at x.script) e) (last_cons q gs).1,
+)
+
+last_further : (q p : GuestPlan) (gs : List GuestPlan) → IsBehind gs p → IsBehind (q ∷ gs) p
+last_further q p gs h = (
+  rises_to (length p.capture.records) (last_number gs) (last_number (q ∷ gs)) h.0 (last_cons q gs).2,
+  rises_to (last_at p.script) (last_number gs) (last_number (q ∷ gs)) h.1 (last_cons q gs).2,
+)
+
+last_of : (gs : List GuestPlan) (g : ℕ) (p : GuestPlan) → slice_get gs g ≡ Some p → IsBehind gs p
+last_of [] g p is = absurd (none_there g p is)
+last_of (q ∷ gs) zero p is = last_here q p gs (same_item q p is)
+last_of (q ∷ gs) (suc g) p is = last_further q p gs (last_of gs g p is)
+
+-- behind the last number nothing is left of any guest
+pub over_last : (n port : ℕ) (r : RunView) → n ≡ last_number r.plan.guests → Stands n port r → IsOver port r
+over_last n port r e s = λ p is. let l = last_of r.plan.guests port p is in let records = l.0 in let actions = l.1 in let at = s.passed in let k = r.reached port in record {
+  script = none_left k p.script (last_past n (drop k p.script) (let le = last_drop k p.script in omega (arith, e, le, actions)) (s.begun p is).ahead);
+  capture = omega (arith, e, at, records);
+}
+
+-- all guests are closed, one by one
+pub closed_next : (port : ℕ) (r s t : RunView) → s ≡ record r { world = record r.world { seats = closed_to port r.world.seats } } → t ≡ changes port closed s → t ≡ record r { world = record r.world { seats = closed_to (port + 1) r.world.seats } }
+closed_next port r s t e h = let one : suc port ≡ port + 1 = omega arith in h ∙ ap (changes port closed) e ∙ ap (λ (k : ℕ). record r { world = record r.world { seats = closed_to k r.world.seats } }) one
+
+pub closed_ready : (plan : Plan) (k : ℕ) (w : World) → IsReady plan w → IsReady plan (record w { seats = closed_to k w.seats })
+closed_ready plan zero w r = r
+closed_ready plan (suc k) w r = ready_at plan k closed (record w { seats = closed_to k w.seats }) (closed_ready plan k w r)
+
+pub closed_whole : (k : ℕ) (r : RunView) → k ≡ length r.world.seats → record r { world = record r.world { seats = closed_to k r.world.seats } } ≡ closes_all r
+closed_whole k r e = ap (λ (ss : List Seat). record r { world = record r.world { seats = ss } }) (ap (λ (j : ℕ). closed_to j r.world.seats) e ∙ closed_all r.world.seats)
+
+-- the run closes all guests behind the last number
+pub run_is : (plan : Plan) (w : World) → w ≡ rounds plan (last_number plan.guests) (start plan) → record w { seats = map closed w.seats } ≡ serial_run plan
+unfolding serial_run
+run_is plan w e = ap (λ (v : World). record v { seats = map closed v.seats }) e

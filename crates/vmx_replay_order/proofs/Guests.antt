@@ -1,0 +1,54 @@
+-- One guest of all, and the counts of guests.
+use Rattle.std.proofs.Common.{◌≡◌, ◌≢◌, ℕ, zero, suc, ◌+◌, ◌<◌, ◌≤◌, List, [], ◌∷◌, length, refl, ap, sym, arith, Some, None, get_or, inl, inr}
+use Rattle.std.specs.Option.{option_map}
+use Rattle.std.specs.List.{slice_get}
+use Rattle.std.proofs.lemmas.Bool.Decides.{eqb_tells}
+use Rattle.vmx_model.specs.Serial.{at_number}
+use Rattle.vmx_replay_order.specs.Runs.{one_more}
+
+-- ------------------------------------------------------------ one element
+
+pub at_twice : {X : Type 0} (n : ℕ) (f g : X → X) (xs : List X) → at_number n f (at_number n g xs) ≡ at_number n (λ x. f (g x)) xs
+at_twice n f g [] = refl
+at_twice zero f g (x ∷ xs) = refl
+at_twice (suc n) f g (x ∷ xs) = ap (λ (ys : List _). x ∷ ys) (at_twice n f g xs)
+
+pub at_same : {X : Type 0} (n : ℕ) (f g : X → X) → ((x : X) → f x ≡ g x) → (xs : List X) → at_number n f xs ≡ at_number n g xs
+at_same n f g h [] = refl
+at_same zero f g h (x ∷ xs) = ap (λ y. y ∷ xs) (h x)
+at_same (suc n) f g h (x ∷ xs) = ap (λ (ys : List _). x ∷ ys) (at_same n f g h xs)
+
+pub at_stays : {X : Type 0} (n : ℕ) (f : X → X) (xs : List X) → ((x : X) → slice_get xs n ≡ Some x → f x ≡ x) → at_number n f xs ≡ xs
+at_stays n f [] h = refl
+at_stays zero f (x ∷ xs) h = ap (λ y. y ∷ xs) (h x refl)
+at_stays (suc n) f (x ∷ xs) h = ap (λ (ys : List _). x ∷ ys) (at_stays n f xs h)
+
+pub get_at : {X : Type 0} (n : ℕ) (f : X → X) (xs : List X) → slice_get (at_number n f xs) n ≡ option_map f (slice_get xs n)
+get_at n f [] = refl
+get_at zero f (x ∷ xs) = refl
+get_at (suc n) f (x ∷ xs) = get_at n f xs
+
+-- ------------------------------------------------------------ items by their numbers
+
+pub there : {X : Type 0} (xs : List X) (i : ℕ) (x : X) → i < length xs → x ≡ get_or xs i x → slice_get xs i ≡ Some x
+there [] i x lt e = absurd (omega arith)
+there (y ∷ ys) zero x lt e = ap Some (sym e)
+there (y ∷ ys) (suc i) x lt e = there ys i x (omega arith) e
+
+pub some_there : {X : Type 0} (xs : List X) (i : ℕ) → i < length xs → (x : X) × (slice_get xs i ≡ Some x)
+some_there [] i lt = absurd (omega arith)
+some_there (y ∷ ys) zero lt = (y, refl)
+some_there (y ∷ ys) (suc i) lt = some_there ys i (omega arith)
+
+pub past : {X : Type 0} (xs : List X) (i : ℕ) → length xs ≤ i → slice_get xs i ≡ None
+past [] i le = refl
+past (y ∷ ys) zero le = absurd (omega arith)
+past (y ∷ ys) (suc i) le = past ys i (omega arith)
+
+-- ------------------------------------------------------------ counts
+
+pub more_here : (port : ℕ) (counts : ℕ → ℕ) → one_more port counts port ≡ counts port + 1
+more_here port counts = let self = eqb_tells port port in elim self [ inl w ↦ rw w.0 refl | inr w ↦ absurd (w.1 refl) ]
+
+pub more_other : (port h : ℕ) (counts : ℕ → ℕ) → h ≢ port → one_more port counts h ≡ counts h
+more_other port h counts away = elim (eqb_tells h port) [ inl w ↦ absurd (away w.1) | inr w ↦ rw w.0 refl ]

@@ -1,0 +1,40 @@
+use Rattle.std.proofs.Common.{◌+◌, ◌*◌, ◌^◌, ◌<◌, ◌∙◌, ap, sym, arith, subst, length, refl}
+use Rattle.vmx_model.specs.declared.plan.Plan.{Plan}
+use Rattle.vmx_model.specs.Serial.{turn}
+use Rattle.vmx_model.specs.SerialSteps.{turns_none, turns_more}
+use Rattle.vmx_model.specs.Turns.{IsReady}
+use Rattle.vmx_model.proofs.Ready.{ready_turns}
+use Rattle.vmx_replay_order.specs.Runs.{RunView}
+use Rattle.vmx_replay_order.proofs.Closing.{from_next, below_next}
+use Rattle.vmx_replay_order.specs.Short.{AreShort}
+use Rattle.vmx_replay_order.proofs.Short.{short_more, short_turns}
+use Rattle.vmx_replay_order.proofs.order.round.Goals as goal
+
+pub loop-port-init : goal.loop-port-init
+loop-port-init g c = let a = c.args in let r : RunView = g.A.Actors.run a.actors.now in record {
+  world = sym (turns_none r.plan a.number r.world);
+  plan = refl;
+  ahead = λ h le lt. c.requires.stand h lt;
+  behind = λ h lt. absurd (omega (arith, lt));
+}
+
+pub turn-requires : goal.turn-requires
+turn-requires g c = let a = c.args in let l = c.loop-port in let r : RunView = g.A.Actors.run a.actors.now in let e = l.invariant in
+    let low : l.port < length (g.A.Actors.run l.actors).plan.guests = subst (λ (p : Plan). l.port < length p.guests) (sym e.plan) (let n = c.requires.guests in omega arith) in record {
+      port = low;
+      stands = e.ahead l.port (omega arith) low;
+      short = short_more (2 ^ 46 + 544 * l.port) (2 ^ 47) (g.A.Actors.run l.actors).world (omega arith) (subst (AreShort (2 ^ 46 + 544 * l.port)) (sym e.world) (short_turns (2 ^ 46) r.plan a.number l.port r.world c.requires.short));
+      ready = subst (λ (p : Plan). IsReady p (g.A.Actors.run l.actors).world) (sym e.plan) (subst (IsReady r.plan) (sym e.world) (ready_turns r.plan a.number l.port r.world c.requires.ready));
+    }
+
+pub loop-port-preserved : goal.loop-port-preserved
+loop-port-preserved g c = let a = c.args in let l = c.loop-port in let r : RunView = g.A.Actors.run a.actors.now in let i = l.invariant in let e = c.in_ok-turn.ensures in
+    let s : RunView = g.A.Actors.run l.actors in let t : RunView = g.A.Actors.run c.turn.new.actors in record {
+      world = e.turn ∙ ap (λ (p : Plan). turn p a.number l.port s.world) i.plan ∙ ap (turn r.plan a.number l.port) i.world ∙ sym (turns_more r.plan a.number l.port r.world);
+      plan = e.others.plan ∙ i.plan;
+      ahead = from_next a.number l.port s t e.others i.ahead;
+      behind = below_next (a.number + 1) l.port s t e.others e.stands i.behind;
+    }
+
+pub returns-clause-stand : goal.returns-clause-stand
+returns-clause-stand g c = let a = c.args in let l = c.loop-port in λ h lt. l.invariant.behind h (let n = c.requires.guests in let m = subst (λ (p : Plan). h < length p.guests) l.invariant.plan lt in omega arith)

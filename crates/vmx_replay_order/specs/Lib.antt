@@ -1,0 +1,5 @@
+pub mod Runs
+pub mod Standing
+pub mod Orders
+pub mod Early
+pub mod Short
