@@ -1,0 +1,6 @@
+pub mod Fronts
+pub mod Each
+pub mod UpTo
+pub mod Queues
+pub mod Links
+pub mod Registers

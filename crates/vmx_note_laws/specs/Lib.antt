@@ -1,0 +1,5 @@
+pub mod Each
+pub mod UpTo
+pub mod Queues
+pub mod Links
+pub mod Registers
