@@ -7,13 +7,14 @@
 mod hash;
 mod link;
 mod place;
+mod rings;
 mod samples;
 
 use anyhow::{Result, bail};
 use std::env;
 use vmx_queue_bench::{rx_queue, tx_queue};
 
-const USAGE: &str = "usage: vmx_bench [samples FILE | hash N | link N | tx N | rx N]";
+const USAGE: &str = "usage: vmx_bench [samples FILE | rings FILE | hash N | link N | tx N | rx N]";
 
 fn main(rt: HostRuntime) -> Result<()> {
     let mut words = env::args(&rt)?.skip(1);
@@ -25,6 +26,7 @@ fn main(rt: HostRuntime) -> Result<()> {
     };
     match (word.as_str(), what.as_str().parse::<u32>()) {
         ("samples", _) => samples::write(&rt, what.as_str())?,
+        ("rings", _) => rings::write(&rt, what.as_str())?,
         ("hash", Ok(count)) => {
             let all = hash::all_hashes(count);
             println!(rt; "{all}")?;

@@ -3,3 +3,4 @@ mod Follows
 mod Delivers
 mod Receives
 mod Begins
+mod Showing

@@ -1,1 +1,1 @@
-mod Between
+mod Showing

@@ -1,4 +1,5 @@
 pub mod Ends
 pub mod NoteView
 pub mod FactsView
-pub mod Laws
+pub mod Counting
+pub mod StandingLaws

@@ -2,13 +2,12 @@
 //!
 //! Words, rule and steps are `vmx_rx_ring`'s, the walks of both ends `vmx_rx_walk`'s, a delivery and a receipt as a whole
 //! `vmx_rx_ends`'; here stand the two ends, their notes and the facts. That every step of any schedule keeps the rule of the
-//! table is proved with each call; `laws` tells what the rule says between any two steps.
+//! table is proved with each call; `vmx_rx_laws` tells what the rule says between any two steps.
 #![tactic(auto)]
 
 mod device;
 mod driver;
 mod facts;
-pub mod laws;
 mod life;
 mod notes;
 mod shown;
@@ -18,4 +17,4 @@ pub use driver::RxDriverEnd;
 pub use facts::RxQueueFacts;
 pub use life::{make, meet};
 pub use notes::RxNoteEnd;
-pub use shown::word;
+pub use shown::{word, write_down};

@@ -1,9 +1,9 @@
 -- What each step over the ring of completions tells its seat.
-use Rattle.std.specs.Prelude.{◌≡◌, ◌≢◌, ℕ, suc, ◌<◌, ◌≤◌, [], ◌∷◌, ◌++◌, length, true, false}
+use Rattle.std.specs.Prelude.{◌≡◌, ◌≢◌, ℕ, suc, ◌<◌, ◌≤◌, [], ◌∷◌, ◌++◌, length, true, false, slice_index}
 use Rattle.std.specs.Int.{bit_at}
 use mathlib.Core.Option.{some}
 use lib.ListN.{get_elem?}
-use Rattle.atomic_table.specs.Table.{Step}
+use Rattle.atomic_table.specs.Table.{State, Step}
 use Rattle.vmx_layout.specs.declared.TheConstants.{COMPLETION_GENERATION_BIT}
 use Rattle.vmx_genring.specs.Rings.{generation_bit}
 use Rattle.vmx_ends.specs.declared.frames.Sent.{Sent}
@@ -11,7 +11,8 @@ use Rattle.vmx_ends.specs.Transmit.{need}
 use Rattle.vmx_tx_ring.specs.declared.known.TxBuffer.{TxBuffer}
 use Rattle.vmx_tx_ring.specs.declared.known.TxKnown.{TxKnown}
 use Rattle.vmx_tx_ring.specs.Tells.{Seated, driver_at, device_at}
-use Rattle.vmx_txq.specs.Completions.{completion}
+use Rattle.vmx_tx_ring.specs.Rule.{Queue}
+use Rattle.vmx_txq.specs.Completions.{completion, Rows}
 
 -- The driver's load of the second word of the next completion: it is there, or it is not.
 abbrev pub to_check : TxKnown → TxKnown
@@ -47,6 +48,13 @@ one_completed v = device_at v (record v.device.at { completed = suc v.device.at.
 abbrev pub device_completed : Step TxBuffer → Seated → ℕ → Seated → Type 0
 device_completed st m r m' = m' ≡ (one_completed m.0, m.1)
 
--- A load that changes nothing.
+-- A load that changes nothing finds the word of a state that the rule allows, in which the driver did what it knows.
+pub record Seen (v : TxKnown) (index r : ℕ) : Type 0 where
+  pub state : State TxBuffer TxKnown
+  pub allowed : Queue Rows state
+  pub made_is : allowed.story.made ≡ v.made
+  pub driver_is : allowed.story.d ≡ v.driver
+  pub word_is : r ≡ slice_index state.words index
+
 abbrev pub seen_only : Step TxBuffer → Seated → ℕ → Seated → Type 0
-seen_only st m r m' = m' ≡ m
+seen_only st m r m' = (m' ≡ m) × Seen m.0 st.word r

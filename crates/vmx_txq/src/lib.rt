@@ -2,8 +2,8 @@
 //! memory or waits.
 //!
 //! Descriptors, buffers and their walks are `vmx_tx_ring`'s; here stand the ring of completions, the two ends, their notes
-//! and the facts. That every step of any schedule keeps the rule of the table is proved with each call; `laws` tells what
-//! the rule says between any two steps.
+//! and the facts. That every step of any schedule keeps the rule of the table is proved with each call; `vmx_tx_laws` and
+//! `laws` tell what the rule says between any two steps.
 #![tactic(auto)]
 
 mod completing;
@@ -19,4 +19,4 @@ mod words;
 pub use ends::{TxDeviceEnd, TxDriverEnd, TxFacts, TxQueueNote};
 pub use life::{make, meet};
 pub use rows::InRows;
-pub use shown::word;
+pub use shown::{word, write_down};

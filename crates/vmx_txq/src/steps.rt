@@ -1,7 +1,7 @@
 //! What each step over the ring of completions tells its seat. These types are for the proofs alone.
 ghost use Rattle.vmx_txq.specs.Tells.{driver_looked, driver_reaped, device_closed, device_completed, seen_only};
 
-use atomic_table::Play;
+use atomic_table::{Join, Play};
 use vmx_tx_ring::{TxBuffer, TxKnown};
 
 pub(crate) struct DriverLooks;
@@ -32,4 +32,14 @@ pub(crate) struct Shows;
 
 impl Play<TxBuffer, TxKnown> for Shows {
     ghost then = { seen_only };
+}
+
+pub(crate) struct BothEnds;
+
+impl Join<TxKnown> for BothEnds {
+    ghost use Rattle.vmx_tx_ring.specs.Seats.{together, nobody};
+
+    ghost both = { together };
+
+    ghost spent = { nobody };
 }

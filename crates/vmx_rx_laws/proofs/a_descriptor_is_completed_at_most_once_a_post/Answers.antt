@@ -1,0 +1,5 @@
+use Rattle.vmx_rx_laws.proofs.Between.{completed_once}
+use Rattle.vmx_rx_laws.proofs.a_descriptor_is_completed_at_most_once_a_post.Goals as goal
+
+pub returns : goal.returns
+returns g c = record { law = completed_once g.C.TellsVisible.counted }

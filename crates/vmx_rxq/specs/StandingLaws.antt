@@ -1,0 +1,7 @@
+-- A buffer and its data entry have at most 4,224 bytes.
+use Rattle.std.proofs.Common.{◌≤◌, length, arith, length-append}
+use Rattle.vmx_rx_ring.specs.declared.known.Buffer.{Buffer}
+use Rattle.vmx_rx_ends.specs.Standing.{bytes_of}
+
+pub bytes_few : (b : Buffer) → length (bytes_of b) ≤ 4224
+bytes_few b = let l = length-append b.bytes.items b.entry.items in let room = b.room in let entry = b.entry_room in let n = b.bytes.ok in let k = b.entry.ok in omega arith
