@@ -17,7 +17,7 @@ use Rattle.vmx_driver_steps.specs.Driver.{DriverView, other_ends, state_in, held
 use Rattle.vmx_actor_laws.specs.Joint.{AreCaughtUp, AreOfItsQueues, GoWith, IsLed, LeadsItsDevice}
 
 -- two lists in two parts each, the first ones equally long
-parts : {X : Type 0} (a b xs ys : List X) → length a ≡ length b → a ++ xs ≡ b ++ ys → (a ≡ b) × (xs ≡ ys)
+pub parts : {X : Type 0} (a b xs ys : List X) → length a ≡ length b → a ++ xs ≡ b ++ ys → (a ≡ b) × (xs ≡ ys)
 parts a b xs ys long same = (
   sym (take-append_seam a xs) ∙ ap₂ (λ (n : ℕ) (l : List _). take n l) long same ∙ take-append_seam b ys,
   sym (drop-append_seam a xs) ∙ ap₂ (λ (n : ℕ) (l : List _). drop n l) long same ∙ drop-append_seam b ys,

@@ -12,7 +12,7 @@ use Rattle.vmx_device_laws.specs.Views.{DeviceView}
 use Rattle.vmx_device_laws.specs.Keeps.{Keeps, spoken}
 use Rattle.vmx_device.specs.Rest.{rests_by, rests_from, is_at_rest}
 
-dealt : (d : Deal) (now : Bool) (held given : Option Held) → (now ≡ true → held ≡ None) → rests_by d now ≡ true → held_by d held given ≡ None
+pub dealt : (d : Deal) (now : Bool) (held given : Option Held) → (now ≡ true → held ≡ None) → rests_by d now ≡ true → held_by d held given ≡ None
 dealt Begins now held given h r = absurd (true≢false (sym r))
 dealt Stops now held given h r = refl
 dealt Passes now held given h r = h r

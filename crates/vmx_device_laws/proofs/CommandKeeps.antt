@@ -176,7 +176,7 @@ frames_stay (x ∷ all) e (suc a) q place f h = frames_stay all e a q place f h
 
 -- ------------------------------------------------------------ errors and stopped queues
 
-none_in : (x : Option ℕ) → is_some x ≡ false → (n q : ℕ) → is_some (get_or (replicate n x) q x) ≡ false
+pub none_in : (x : Option ℕ) → is_some x ≡ false → (n q : ℕ) → is_some (get_or (replicate n x) q x) ≡ false
 none_in x none zero zero = none
 none_in x none zero (suc q) = none
 none_in x none (suc n) zero = none
@@ -543,11 +543,11 @@ module _ (old m : MachineView) (number value : ℕ) (image : List ℕ) (given : 
       let q = began_queues (image_setup image) b.1.0 (fault image) zero_is in
       (ap (λ (e : EndsView). length e.tx) same ∙ q.0 ∙ ap (λ (s : SetupView). s.tx_queues) setup, ap (λ (e : EndsView). length e.rx) same ∙ q.1 ∙ ap (λ (s : SetupView). s.rx_queues) setup)
 
-some_ends : (o : Option ActiveView) (e : EndsView) → option_map (λ (y : ActiveView). y.ends) o ≡ Some e → (a : ActiveView) × (o ≡ Some a)
+pub some_ends : (o : Option ActiveView) (e : EndsView) → option_map (λ (y : ActiveView). y.ends) o ≡ Some e → (a : ActiveView) × (o ≡ Some a)
 some_ends None e h = absurd (cc h)
 some_ends (Some a) e h = (a, refl)
 
-no_ends : (o : Option ActiveView) → option_map (λ (y : ActiveView). y.ends) o ≡ None → o ≡ None
+pub no_ends : (o : Option ActiveView) → option_map (λ (y : ActiveView). y.ends) o ≡ None → o ≡ None
 no_ends None h = refl
 no_ends (Some a) h = absurd (cc h)
 

@@ -89,19 +89,19 @@ pub record OneLook (q : ℕ) (d d' : DeviceView) : Type 0 where
   pub ends : tx_of d'.machine.active ≡ set (tx_of d.machine.active) q n
   pub same : (d'.port ≡ d.port) × (d'.table ≡ d.table) × (count is_activation d'.entries ≡ count is_activation d.entries)
 
-at_of : (m : MachineView) (q : ℕ) (here : TxAt m q) → slice_get (tx_of m.active) q ≡ Some here.end
+pub at_of : (m : MachineView) (q : ℕ) (here : TxAt m q) → slice_get (tx_of m.active) q ≡ Some here.end
 at_of m q here = ap (λ (o : Option ActiveView). slice_get (tx_of o) q) here.is_active ∙ here.at
 
-set_of : (m new : MachineView) (q : ℕ) (here : TxAt m q) (v : TxDeviceView) → new ≡ with_tx (set here.active.ends.tx q v) m → tx_of new.active ≡ set (tx_of m.active) q v
+pub set_of : (m new : MachineView) (q : ℕ) (here : TxAt m q) (v : TxDeviceView) → new ≡ with_tx (set here.active.ends.tx q v) m → tx_of new.active ≡ set (tx_of m.active) q v
 set_of m new q here v is =
     ap (λ (y : MachineView). tx_of y.active) is ∙ ap (λ (o : Option ActiveView). tx_of (with_tx (set here.active.ends.tx q v) (record m { active = o })).active) here.is_active
     ∙ ap (λ (o : Option ActiveView). set (tx_of o) q v) (sym here.is_active)
 
-held_is : (o : Option ActiveView) → tx_held o ≡ length (tx_of o)
+pub held_is : (o : Option ActiveView) → tx_held o ≡ length (tx_of o)
 held_is None = refl
 held_is (Some a) = refl
 
-one_look : (q : ℕ) (found : Bool) (d d' : DeviceView) → q < length (tx_of d.machine.active) → TxStep q found d d' → OneLook q d d'
+pub one_look : (q : ℕ) (found : Bool) (d d' : DeviceView) → q < length (tx_of d.machine.active) → TxStep q found d d' → OneLook q d d'
 one_look q false d d' lt s = elim s [
   | inl p ↦
       let there = get_there (tx_of d.machine.active) q lt in record {
@@ -163,7 +163,7 @@ pub record Paired (n : ℕ) (d d' : DeviceView) : Type 0 where
   pub many : length (tx_of d'.machine.active) ≡ length (tx_of d.machine.active)
   pub same : (d'.port ≡ d.port) × (d'.table ≡ d.table) × (count is_activation d'.entries ≡ count is_activation d.entries)
 
-one_more : (n : ℕ) (d mid d' : DeviceView) → n < length (tx_of d.machine.active) → Paired n d mid → OneLook n mid d' → Paired (suc n) d d'
+pub one_more : (n : ℕ) (d mid d' : DeviceView) → n < length (tx_of d.machine.active) → Paired n d mid → OneLook n mid d' → Paired (suc n) d d'
 one_more n d mid d' lt p o =
     let at : slice_get (tx_of d.machine.active) n ≡ Some o.e = sym (p.rest n (omega arith)) ∙ o.at in
     let front = take_get (tx_of d.machine.active) n o.e at in
@@ -180,7 +180,7 @@ one_more n d mid d' lt p o =
       same = (o.same.0 ∙ p.same.0, o.same.1 ∙ p.same.1, o.same.2 ∙ p.same.2);
     }
 
-all_paired : (n : ℕ) (found : Bool) (d d' : DeviceView) → n ≤ length (tx_of d.machine.active) → TxSteps n found d d' → Paired n d d'
+pub all_paired : (n : ℕ) (found : Bool) (d d' : DeviceView) → n ≤ length (tx_of d.machine.active) → TxSteps n found d d' → Paired n d d'
 all_paired zero found d d' le s = record {
   es = [];
   pairs = (refl, ap (λ (x : DeviceView). x.out) s.1);

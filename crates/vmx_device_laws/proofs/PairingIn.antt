@@ -96,7 +96,7 @@ pub record RxLook (x : ActiveView) (a : ℕ) (c : Came) (m : MachineView) : Type
   pub tx : y.ends.tx ≡ x.ends.tx
   pub gave : Gave x a c y ⊎ GaveNone x c y
 
-some_same : {X : Type 0} (o : Option X) (x y : X) → o ≡ Some x → o ≡ Some y → x ≡ y
+pub some_same : {X : Type 0} (o : Option X) (x y : X) → o ≡ Some x → o ≡ Some y → x ≡ y
 some_same o x y h g = let both : Some x ≡ Some y = sym h ∙ g in cc both
 
 module _ (x : ActiveView) (a : ℕ) (c : Came) (m : MachineView) (now : m.active ≡ Some x) where

@@ -28,7 +28,7 @@ pub record Same (d d' : DeviceView) : Type 0 where
   pub calls : d'.calls ≡ d.calls
   pub setups : d'.setups ≡ d.setups
 
-same_on : (d m d' : DeviceView) → Same d m → Same m d' → Same d d'
+pub same_on : (d m d' : DeviceView) → Same d m → Same m d' → Same d d'
 same_on d m d' s t = record { port = t.port ∙ s.port; table = t.table ∙ s.table; key = t.key ∙ s.key; calls = t.calls ∙ s.calls; setups = t.setups ∙ s.setups }
 
 -- a device with other machine, masks, links and entries
@@ -73,7 +73,7 @@ leaves_steps : (x : ActiveView) (n : ℕ) (found : Bool) (d d' : DeviceView) →
 leaves_steps x zero found d d' s l = subst (TxLeaves x) (ap (λ (z : DeviceView). z.machine.active) (sym s.1)) l
 leaves_steps x (suc n) found d d' (before, here, (mid, is, step, steps)) l = leaves_step x mid d' n here step (leaves_steps x n before d mid steps l)
 
-same_tx : (d d' : DeviceView) (q : ℕ) (found : Bool) → TxStep q found d d' → Same d d' × (d'.input ≡ d.input)
+pub same_tx : (d d' : DeviceView) (q : ℕ) (found : Bool) → TxStep q found d d' → Same d d' × (d'.input ≡ d.input)
 same_tx d d' q false s = elim s [
   | inl p ↦ (same_by d d' d.machine d.masks d.out d.input d.entries p.is, ap (λ (z : DeviceView). z.input) p.is)
   | inr n ↦ (same_by d d' n.machine d.masks d.out d.input d.entries n.is, ap (λ (z : DeviceView). z.input) n.is)

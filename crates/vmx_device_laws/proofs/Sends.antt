@@ -108,7 +108,7 @@ no_up links port t (entry.Lost tag) h = refl
 no_up links port t (entry.Setting number answer setup) h = absurd h
 no_up links port t (entry.In from place f) h = absurd h
 
-no_arrival : (from : ℕ) (t : Tag) (e : Entry) → IsSending t e → place_from from e ≡ None
+pub no_arrival : (from : ℕ) (t : Tag) (e : Entry) → IsSending t e → place_from from e ≡ None
 no_arrival from t (entry.Out tag target w) h = refl
 no_arrival from t (entry.Lost tag) h = refl
 no_arrival from t (entry.Setting number answer setup) h = absurd h

@@ -20,7 +20,7 @@ use Rattle.vmx_device_laws.specs.Views.{DeviceView, AreWhole}
 use Rattle.vmx_device_laws.specs.Steps.{BellStep, TxStep, TxSteps, InStep, InSteps, counted_taken}
 use Rattle.vmx_device_laws.proofs.Lists.{all_of_set, and_both}
 
-both_true : (a b : Bool) → a ≡ true → b ≡ true → (a && b) ≡ true
+pub both_true : (a b : Bool) → a ≡ true → b ≡ true → (a && b) ≡ true
 both_true true b x y = y
 both_true false b x y = absurd (true≢false (sym x))
 

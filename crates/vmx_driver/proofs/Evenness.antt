@@ -49,7 +49,7 @@ set_tx (x ∷ xs) (suc q) d d' at a b e = (e.0, set_tx xs q d d' at a b e.1)
 posts : (old new : DriverView) → PostsNext old new → AreEven old → AreEven new
 posts old new p e = subst AreEven (sym p.is) (record { tx = set_tx old.tx _ p.end _ p.at refl refl e.tx; rx = e.rx })
 
-passed_tx : (ds : List TxDriverView) (es : List TxDeviceView) (ds' : List TxDriverView) (es' : List TxDeviceView) → PassedAllTx ds es ds' es' → AllByRecursion IsEvenTx ds → AllByRecursion IsEvenTx ds'
+pub passed_tx : (ds : List TxDriverView) (es : List TxDeviceView) (ds' : List TxDriverView) (es' : List TxDeviceView) → PassedAllTx ds es ds' es' → AllByRecursion IsEvenTx ds → AllByRecursion IsEvenTx ds'
 passed_tx [] [] [] [] p e = tt
 passed_tx (d ∷ ds) (x ∷ es) (d' ∷ ds') (x' ∷ es') p e = (ap (λ (y : TxDriverView). y.notes_given) p.0.driver ∙ ap suc e.0 ∙ sym (ap (λ (y : TxDriverView). y.notes_heard) p.0.driver), passed_tx ds es ds' es' p.1 e.1)
 passed_tx [] [] [] (x' ∷ es') p e = absurd p
@@ -59,7 +59,7 @@ passed_tx (d ∷ ds) [] ds' es' p e = absurd p
 passed_tx (d ∷ ds) (x ∷ es) [] es' p e = absurd p
 passed_tx (d ∷ ds) (x ∷ es) (d' ∷ ds') [] p e = absurd p
 
-passed_rx : (ds : List RxDriverView) (es : List RxDeviceView) (ds' : List RxDriverView) (es' : List RxDeviceView) → PassedAllRx ds es ds' es' → AllByRecursion IsEvenRx ds → AllByRecursion IsEvenRx ds'
+pub passed_rx : (ds : List RxDriverView) (es : List RxDeviceView) (ds' : List RxDriverView) (es' : List RxDeviceView) → PassedAllRx ds es ds' es' → AllByRecursion IsEvenRx ds → AllByRecursion IsEvenRx ds'
 passed_rx [] [] [] [] p e = tt
 passed_rx (d ∷ ds) (x ∷ es) (d' ∷ ds') (x' ∷ es') p e = (ap (λ (y : RxDriverView). y.notes_given) p.0.driver ∙ ap suc e.0 ∙ sym (ap (λ (y : RxDriverView). y.notes_heard) p.0.driver), passed_rx ds es ds' es' p.1 e.1)
 passed_rx [] [] [] (x' ∷ es') p e = absurd p

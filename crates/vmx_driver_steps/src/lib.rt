@@ -8,8 +8,6 @@
 
 mod next;
 mod progress;
-mod setups;
 
 pub use next::{due, mark_of, settle};
 pub use progress::{Due, Progress, Stage, Then};
-pub use setups::changed;

@@ -85,14 +85,14 @@ fit n rss at quiet (a ∷ rest) h =
     let turn = and_parts (is_in_turn quiet a.deed) (fits_from n rss (quiet_after quiet a.deed) a.at rest) more in
     (grind (arith, nat_tests, low), turn.0, fit n rss a.at (quiet_after quiet a.deed) rest turn.1)
 
-none_before : (m at : ℕ) (quiet : Bool) (script : List Action) → Fit at quiet script → m ≤ at → before m script ≡ []
+pub none_before : (m at : ℕ) (quiet : Bool) (script : List Action) → Fit at quiet script → m ≤ at → before m script ≡ []
 none_before m at quiet [] h le = refl
 none_before m at quiet (a ∷ rest) h le =
     let e : nat_lt a.at m ≡ false = (let low = h.0 in grind (arith, nat_tests)) in
     rw e (none_before m a.at (quiet_after quiet a.deed) rest h.2 (omega (arith, le, h.0)))
 
 -- one number more
-before_more : (n at : ℕ) (quiet : Bool) (script : List Action) → Fit at quiet script → before (suc n) script ≡ before n script ++ now n script
+pub before_more : (n at : ℕ) (quiet : Bool) (script : List Action) → Fit at quiet script → before (suc n) script ≡ before n script ++ now n script
 before_more n at quiet [] h = refl
 before_more n at quiet (a ∷ rest) h = elim (eqb_tells a.at n) [
   | inl p ↦ here p.0 p.1 (before_more n a.at (quiet_after quiet a.deed) rest h.2) (none_before n a.at (quiet_after quiet a.deed) rest h.2 (omega (arith, p.1)))

@@ -31,11 +31,11 @@ use Rattle.vmx_model.proofs.Fates.{targets_once, one_fate}
 use Rattle.vmx_model.proofs.Found.{found_passes, found_holds, finds_tx, finds_link, activation_within}
 
 -- a captured frame stands at its number
-numbered_at : (g : GuestPlan) (j : ℕ) (rs : List Stamped) → AllByRecursion (λ (c : Captured). (n : ℕ) × (c.number ≡ j + n) × (slice_get (numbered g j rs) n ≡ Some c)) (numbered g j rs)
+pub numbered_at : (g : GuestPlan) (j : ℕ) (rs : List Stamped) → AllByRecursion (λ (c : Captured). (n : ℕ) × (c.number ≡ j + n) × (slice_get (numbered g j rs) n ≡ Some c)) (numbered g j rs)
 numbered_at g j [] = tt
 numbered_at g j (r ∷ rs) = ((0, omega arith, refl), all_weaker (λ (c : Captured). (n : ℕ) × (c.number ≡ j + 1 + n) × (slice_get (numbered g (j + 1) rs) n ≡ Some c)) (λ (c : Captured). (n : ℕ) × (c.number ≡ j + n) × (slice_get (numbered g j (r ∷ rs)) n ≡ Some c)) (λ c h. (suc h.0, omega (arith, h.1), h.2)) (numbered g (j + 1) rs) (numbered_at g (j + 1) rs))
 
-captured_at : (p : GuestPlan) → AllByRecursion (λ (c : Captured). slice_get (captured p) c.number ≡ Some c) (captured p)
+pub captured_at : (p : GuestPlan) → AllByRecursion (λ (c : Captured). slice_get (captured p) c.number ≡ Some c) (captured p)
 captured_at p = all_weaker (λ (c : Captured). (n : ℕ) × (c.number ≡ 0 + n) × (slice_get (captured p) n ≡ Some c)) (λ (c : Captured). slice_get (captured p) c.number ≡ Some c) (λ c h. let e : h.0 ≡ c.number = omega (arith, h.1) in subst (λ (m : ℕ). slice_get (captured p) m ≡ Some c) e h.2) (captured p) (numbered_at p 0 p.capture.records)
 
 -- the bytes of a sent frame's tag are its own
@@ -43,7 +43,7 @@ pub frame_at : (p : GuestPlan) (c : Captured) (a q : ℕ) → slice_get (capture
 frame_at p c a q at goes = slice_get-map wire (filter (goes_on p a q) (captured p)) (place_of p a q c.number) ∙ rw (filtered_at (goes_on p a q) (captured p) c.number c at goes) refl
 
 -- targets are other ports of the plan
-kept_range : (test : ℕ → Bool) (sender from n : ℕ) → ((x : ℕ) → test x ≡ true → nat_eq x sender ≡ false) → AllByRecursion (λ x. (x < from + n) × (nat_eq x sender ≡ false)) (filter test (range_with_len from n))
+pub kept_range : (test : ℕ → Bool) (sender from n : ℕ) → ((x : ℕ) → test x ≡ true → nat_eq x sender ≡ false) → AllByRecursion (λ x. (x < from + n) × (nat_eq x sender ≡ false)) (filter test (range_with_len from n))
 kept_range test sender from zero other = tt
 kept_range test sender from (suc n) other = step (test from) refl (all_weaker (λ x. (x < from + 1 + n) × (nat_eq x sender ≡ false)) (λ x. (x < from + suc n) × (nat_eq x sender ≡ false)) (λ x h. (omega (arith, h.0), h.1)) (filter test (range_with_len (from + 1) n)) (kept_range test sender (from + 1) n other))
   where
@@ -51,7 +51,7 @@ kept_range test sender from (suc n) other = step (test from) refl (all_weaker (�
     step true e ih = rw e ((omega arith, other from e), ih)
     step false e ih = rw e ih
 
-not_sender : (w : Wiring) (sender : ℕ) (frame : List ℕ) (x : ℕ) → is_target w sender frame x ≡ true → nat_eq x sender ≡ false
+pub not_sender : (w : Wiring) (sender : ℕ) (frame : List ℕ) (x : ℕ) → is_target w sender frame x ≡ true → nat_eq x sender ≡ false
 unfolding is_target
 not_sender w sender frame x h = step (nat_eq x sender) (and_parts (not (nat_eq x sender)) _ h).0
   where
@@ -59,11 +59,11 @@ not_sender w sender frame x h = step (nat_eq x sender) (and_parts (not (nat_eq x
     step true e = absurd (cc e)
     step false e = refl
 
-guests_count : (gs : List GuestPlan) → length (macs_of gs) ≡ length gs
+pub guests_count : (gs : List GuestPlan) → length (macs_of gs) ≡ length gs
 guests_count [] = refl
 guests_count (g ∷ gs) = let ih = guests_count gs in omega (arith, ih)
 
-targets_range : (gs : List GuestPlan) (from : ℕ) (frame : List ℕ) → AllByRecursion (λ x. (x < length gs) × (nat_eq x from ≡ false)) (targets (wiring gs) from frame)
+pub targets_range : (gs : List GuestPlan) (from : ℕ) (frame : List ℕ) → AllByRecursion (λ x. (x < length gs) × (nat_eq x from ≡ false)) (targets (wiring gs) from frame)
 unfolding target_ports
 targets_range gs from frame = all_weaker (λ x. (x < 0 + length (macs_of gs)) × (nat_eq x from ≡ false)) (λ x. (x < length gs) × (nat_eq x from ≡ false)) (λ x h. (omega (arith, h.0, guests_count gs), h.1))
     (filter (is_target (wiring gs) from frame) (range_with_len 0 (length (macs_of gs)))) (kept_range (is_target (wiring gs) from frame) from 0 (length (macs_of gs)) (not_sender (wiring gs) from frame))
@@ -97,7 +97,7 @@ pub same_name : (m n a b : ℕ) → (nat_eq m a && nat_eq n b) ≡ true → (m �
 same_name m n a b h = let p = and_parts (nat_eq m a) (nat_eq n b) h in
     (elim (eqb_tells m a) [ inl e ↦ e.1 | inr e ↦ absurd (cc (p.0, e.0)) ], elim (eqb_tells n b) [ inl e ↦ e.1 | inr e ↦ absurd (cc (p.1, e.0)) ])
 
-all_both : {X : Type 0} (P Q : X → Type 0) (xs : List X) → AllByRecursion P xs → AllByRecursion Q xs → AllByRecursion (λ x. P x × Q x) xs
+pub all_both : {X : Type 0} (P Q : X → Type 0) (xs : List X) → AllByRecursion P xs → AllByRecursion Q xs → AllByRecursion (λ x. P x × Q x) xs
 all_both P Q [] h k = tt
 all_both P Q (x ∷ xs) h k = ((h.0, k.0), all_both P Q xs h.1 k.1)
 

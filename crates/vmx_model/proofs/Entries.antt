@@ -22,7 +22,7 @@ use Rattle.vmx_model.proofs.Tags.{all_append, all_map_back}
 use Rattle.vmx_model.proofs.Copies.{all_map}
 use Rattle.vmx_model.proofs.Folds.{fold_keeps, at_number_all, all_changed, rounds_keep}
 
-polls_entries : (a n : ℕ) (s : Seat) → (polls a n s).entries ≡ s.entries
+pub polls_entries : (a n : ℕ) (s : Seat) → (polls a n s).entries ≡ s.entries
 polls_entries a zero s = refl
 polls_entries a (suc n) s = polls_entries a n (poll a s)
 

@@ -127,7 +127,7 @@ other_place g a q j k ne = let h : nat_eq j k ≡ false = grind (arith, nat_test
     let e2 : nat_eq a a ≡ true = grind (arith, nat_tests) in
     let e3 : nat_eq q q ≡ true = grind (arith, nat_tests) in rw (e1, e2, e3, h) refl
 
-planned_past : (net : Wiring) (g a q j k to : ℕ) (fs : List (List ℕ)) → k < j → count (is_copy (tag_at g a q k) to) (planned net g a q j fs) ≡ 0
+pub planned_past : (net : Wiring) (g a q j k to : ℕ) (fs : List (List ℕ)) → k < j → count (is_copy (tag_at g a q k) to) (planned net g a q j fs) ≡ 0
 planned_past net g a q j k to [] lt = refl
 planned_past net g a q j k to (f ∷ fs) lt =
     count-append (is_copy (tag_at g a q k) to) (frame_sends (tag_at g a q j) (targets net g f)) (planned net g a q (j + 1) fs)

@@ -1,6 +1,7 @@
 pub mod Lists
 pub mod Fates
 pub mod Found
+pub mod Fits
 pub mod Copies
 pub mod Order
 pub mod Tags

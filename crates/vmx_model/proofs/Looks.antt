@@ -15,7 +15,7 @@ arrived_is every mac from place frame s = refl
 
 -- ------------------------------------------------------------ links
 
-and_both : (a b : Bool) → (a && b) ≡ true → (a ≡ true) × (b ≡ true)
+pub and_both : (a b : Bool) → (a && b) ≡ true → (a ≡ true) × (b ≡ true)
 and_both true b e = (refl, e)
 and_both false b e = absurd (true≢false (sym e))
 
@@ -37,7 +37,7 @@ next_other from a b p apart (l ∷ ls) = one (is_wire from b l) (is_wire from a 
     one false true e h ih = rw h refl
     one false false e h ih = rw h ih
 
-next_behind : {X : Type 0} (xs : List X) (x : X) → slice_get (xs ++ x ∷ []) (length xs) ≡ Some x
+pub next_behind : {X : Type 0} (xs : List X) (x : X) → slice_get (xs ++ x ∷ []) (length xs) ≡ Some x
 next_behind [] x = refl
 next_behind (y ∷ ys) x = next_behind ys x
 
@@ -62,13 +62,13 @@ has_kept from a test p (l ∷ ls) has = one (test l) (is_wire from a l) refl has
     one false true e h ih = rw e refl
     one false false e h ih = rw e (ih (rw e at h))
 
-all_has_kept : (from : ℕ) (test : Wire → Bool) (p : Carried) (ls : List Wire) (tos : List ℕ) → AllByRecursion (HasWire from ls) tos → AllByRecursion (HasWire from (where_it test (carried p) ls)) tos
+pub all_has_kept : (from : ℕ) (test : Wire → Bool) (p : Carried) (ls : List Wire) (tos : List ℕ) → AllByRecursion (HasWire from ls) tos → AllByRecursion (HasWire from (where_it test (carried p) ls)) tos
 all_has_kept from test p ls [] h = tt
 all_has_kept from test p ls (a ∷ tos) h = (has_kept from a test p ls h.0, all_has_kept from test p ls tos h.1)
 
 -- ------------------------------------------------------------ the copies of a frame
 
-next_outs : (t : Tag) (f : List ℕ) (a : ℕ) (tos : List ℕ) (w : World) → AllByRecursion (λ (b : ℕ). b ≡ a → ⊥) tos → next_on (fold (put_out t f) w tos).wires t.guest a ≡ next_on w.wires t.guest a
+pub next_outs : (t : Tag) (f : List ℕ) (a : ℕ) (tos : List ℕ) (w : World) → AllByRecursion (λ (b : ℕ). b ≡ a → ⊥) tos → next_on (fold (put_out t f) w tos).wires t.guest a ≡ next_on w.wires t.guest a
 next_outs t f a [] w apart = refl
 next_outs t f a (b ∷ tos) w apart = next_outs t f a tos (put_out t f w b) apart.1 ∙ next_other t.guest a b (record { tag = t; frame = f }) apart.0 w.wires
 

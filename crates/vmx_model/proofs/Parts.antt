@@ -133,7 +133,7 @@ pushed_rises plan r prem l to leaves q port = step (slice_get r.guests l.from) r
         q
 
 -- nothing arrives over a link that is not there
-no_arrivals : (b : Beside) (setups : List Setup) (g : ℕ) → find (is_link g b.port) b.links ≡ None → (before es : List Entry) → EachAfter (IsLawful b setups) before es → filter_map (place_from g) es ≡ []
+pub no_arrivals : (b : Beside) (setups : List Setup) (g : ℕ) → find (is_link g b.port) b.links ≡ None → (before es : List Entry) → EachAfter (IsLawful b setups) before es → filter_map (place_from g) es ≡ []
 no_arrivals b setups g none before [] h = refl
 no_arrivals b setups g none before (entry.Setting number answer setup ∷ es) h = no_arrivals b setups g none (before ++ entry.Setting number answer setup ∷ []) es h.1
 no_arrivals b setups g none before (entry.Out tag target w ∷ es) h = no_arrivals b setups g none (before ++ entry.Out tag target w ∷ []) es h.1

@@ -171,7 +171,7 @@ others g [] h = tt
 others g (to ∷ tos) h = (λ e. h.0 (sym e), others g tos h.1)
 
 -- the links of targets are there
-has_links : (plan : Plan) (g : ℕ) (w : World) → IsReady plan w → g < length plan.guests → (tos : List ℕ) → AllByRecursion (λ (to : ℕ). to < length (macs_of plan.guests)) tos → AllByRecursion (λ (to : ℕ). to ≢ g) tos → AllByRecursion (HasWire g w.wires) tos
+pub has_links : (plan : Plan) (g : ℕ) (w : World) → IsReady plan w → g < length plan.guests → (tos : List ℕ) → AllByRecursion (λ (to : ℕ). to < length (macs_of plan.guests)) tos → AllByRecursion (λ (to : ℕ). to ≢ g) tos → AllByRecursion (HasWire g w.wires) tos
 has_links plan g w r lt [] below away = tt
 has_links plan g w r lt (to ∷ tos) below away = let l = length-map plan.guests (λ (p : GuestPlan). p.mac) in let b = below.0 in (r.links g to lt (omega (arith, l, b)) away.0, has_links plan g w r lt tos below.1 away.1)
 

@@ -37,13 +37,13 @@ SameTx v w = (v.completed ≡ w.completed) × (v.taken ≡ w.taken)
 abbrev SameRx : RxDeviceView → RxDeviceView → Type 0
 SameRx v w = (v.delivered ≡ w.delivered) × (v.refused ≡ w.refused)
 
-same_tx : (vs ws : List TxDeviceView) → map tx_numbers vs ≡ map tx_numbers ws → Pairwise SameTx vs ws
+pub same_tx : (vs ws : List TxDeviceView) → map tx_numbers vs ≡ map tx_numbers ws → Pairwise SameTx vs ws
 same_tx [] [] e = tt
 same_tx [] (w ∷ ws) e = let l = ap length e in absurd (omega arith)
 same_tx (v ∷ vs) [] e = let l = ap length e in absurd (omega arith)
 same_tx (v ∷ vs) (w ∷ ws) e = (tx_tells v w (cc e), same_tx vs ws (cc e))
 
-same_rx : (vs ws : List RxDeviceView) → map rx_numbers vs ≡ map rx_numbers ws → Pairwise SameRx vs ws
+pub same_rx : (vs ws : List RxDeviceView) → map rx_numbers vs ≡ map rx_numbers ws → Pairwise SameRx vs ws
 same_rx [] [] e = tt
 same_rx [] (w ∷ ws) e = let l = ap length e in absurd (omega arith)
 same_rx (v ∷ vs) [] e = let l = ap length e in absurd (omega arith)

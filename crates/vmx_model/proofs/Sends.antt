@@ -13,12 +13,12 @@ use Rattle.vmx_model.specs.Turns.{send_from, IsVerdict}
 
 -- ------------------------------------------------------------ items by their numbers
 
-some_there : {X : Type 0} (xs : List X) (i : ℕ) → i < length xs → (x : X) × (slice_get xs i ≡ Some x)
+pub some_there : {X : Type 0} (xs : List X) (i : ℕ) → i < length xs → (x : X) × (slice_get xs i ≡ Some x)
 some_there [] i lt = absurd (omega arith)
 some_there (y ∷ ys) zero lt = (y, refl)
 some_there (y ∷ ys) (suc i) lt = some_there ys i (omega arith)
 
-past : {X : Type 0} (xs : List X) (i : ℕ) → length xs ≤ i → slice_get xs i ≡ None
+pub past : {X : Type 0} (xs : List X) (i : ℕ) → length xs ≤ i → slice_get xs i ≡ None
 past [] i le = refl
 past (y ∷ ys) zero le = absurd (omega arith)
 past (y ∷ ys) (suc i) le = past ys i (omega arith)

@@ -42,7 +42,7 @@ NotEarlier s t = s.tag.activation ≤ t.tag.activation
 abbrev ActivationsRise : List Entry → List Entry → Type 0
 ActivationsRise before es = AllByRecursion (λ (s : Send). activation_of before ≤ s.tag.activation) (filter_map send_of es) × Rises NotEarlier (filter_map send_of es)
 
-later : (before : List Entry) (e : Entry) (es : List Entry) → AllByRecursion (λ (s : Send). activation_of (before ++ e ∷ []) ≤ s.tag.activation) (filter_map send_of es) → AllByRecursion (λ (s : Send). activation_of before ≤ s.tag.activation) (filter_map send_of es)
+pub later : (before : List Entry) (e : Entry) (es : List Entry) → AllByRecursion (λ (s : Send). activation_of (before ++ e ∷ []) ≤ s.tag.activation) (filter_map send_of es) → AllByRecursion (λ (s : Send). activation_of before ≤ s.tag.activation) (filter_map send_of es)
 later before e es h = all_weaker (λ (s : Send). activation_of (before ++ e ∷ []) ≤ s.tag.activation) (λ (s : Send). activation_of before ≤ s.tag.activation) (λ s le. omega (arith, le, activation_more before e)) (filter_map send_of es) h
 
 sent_here : (before : List Entry) (e : Entry) (s : Send) (es : List Entry) → send_of e ≡ Some s → s.tag.activation ≡ activation_of before → ActivationsRise (before ++ e ∷ []) es → ActivationsRise before (e ∷ es)

@@ -3,6 +3,7 @@
 //! A guest or a plan whose numbers are known at run time alone is made by `GuestPlan::of` or `Plan::of`, which test its ranges.
 #![tactic(auto)]
 
+mod changes;
 mod deeds;
 mod guest;
 mod guest_checks;
@@ -17,6 +18,7 @@ mod sending;
 mod steps;
 mod verdicts;
 
+pub use changes::changed;
 pub use deeds::{Action, Deed};
 pub use guest::GuestPlan;
 pub use guest_parts::GuestParts;

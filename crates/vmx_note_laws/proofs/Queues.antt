@@ -54,7 +54,7 @@ passes_told_tx d d' e e' one p =
     }
 
 -- the taken frames, one more
-sent_push : (ts : List Taken) (t : Taken) → sent_of (ts ++ t ∷ []) ≡ sent_of ts ++ t.sent ∷ []
+pub sent_push : (ts : List Taken) (t : Taken) → sent_of (ts ++ t ∷ []) ≡ sent_of ts ++ t.sent ∷ []
 sent_push [] t = refl
 sent_push (u ∷ ts) t = ap (λ (xs : List Sent). u.sent ∷ xs) (sent_push ts t)
 

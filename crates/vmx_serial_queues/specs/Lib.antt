@@ -2,4 +2,3 @@ pub mod Walks
 pub mod Queues
 pub mod Forms
 pub mod Small
-pub mod Fits

@@ -12,6 +12,6 @@ mod walk;
 pub use forms::{Arrival, delivered_as, mark_of, wire_form};
 pub use queues::{deliver, fate_on, hand_up, make_rx, make_tx, pending, receive_each, transmit};
 pub use rx::{Delivered, RxQueue};
-pub use setups::{admitted, changed, rx_queue};
+pub use setups::{admitted, rx_queue};
 pub use tx::{Posted, TxQueue};
 pub use walk::{Outcome, Stand};

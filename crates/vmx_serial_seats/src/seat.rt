@@ -18,10 +18,10 @@ use vmx_filters::Verdict;
 use vmx_frame::{ADDRESS_LEN, HEADER_LEN};
 use vmx_io::List;
 use vmx_layout::Command;
-use vmx_model::{Action, Deed, Entry, Fate, GuestPlan, Received};
+use vmx_model::{Action, Deed, Entry, Fate, GuestPlan, Received, changed};
 use vmx_serial_queues::{
-    Arrival, RxQueue, TxQueue, admitted, changed, deliver, delivered_as, fate_on, hand_up, make_rx,
-    make_tx, pending, receive_each, rx_queue, transmit,
+    Arrival, RxQueue, TxQueue, admitted, deliver, delivered_as, fate_on, hand_up, make_rx, make_tx,
+    pending, receive_each, rx_queue, transmit,
 };
 use vmx_shared_area::Setup;
 

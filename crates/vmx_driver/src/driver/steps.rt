@@ -22,10 +22,10 @@ use std::alloc::AllocError;
 use vmx_driver_ends::{
     image_for, pass_all_rx, pass_all_tx, post_next, provide, reap_all, unmask_if, wait,
 };
-use vmx_driver_steps::{Stage, Then, changed, settle};
+use vmx_driver_steps::{Stage, Then, settle};
 use vmx_ends::{Fabric, meet_queues, meet_rx_queues};
 use vmx_layout::Command;
-use vmx_model::Action;
+use vmx_model::{Action, changed};
 use vmx_regs::{Answer, Bag};
 use vmx_shared_area::{Image, Setup};
 

@@ -1,5 +1,5 @@
 use Rattle.std.proofs.Common.{rules, ◌≡◌, length, arith}
-use Rattle.vmx_serial_queues.specs.Fits.{entries_below, rest_zero}
+use Rattle.vmx_model.proofs.Fits.{entries_below, rest_zero}
 use Rattle.vmx_sketches.proofs.sketch.rss_with.Goals as goal
 
 pub invariant_of-result : goal.invariant_of-result

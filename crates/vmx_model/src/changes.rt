@@ -1,11 +1,11 @@
-//! The setup that a driver asks for after a deed of its script. It belongs into vmx_model.
+//! The setup after a deed of a script.
 ghost use Rattle.std.specs.Prelude.{◌≡◌, ◌<◌, Some, true};
 ghost use Rattle.vmx_shared_area.specs.Tells.{EntriesBelow};
 ghost use Rattle.vmx_device_state.specs.SetupView.{setup_view, rss_view, mac_list};
 ghost use Rattle.vmx_model.specs.Ranges.{fits_deed};
 ghost use Rattle.vmx_model.specs.Plan.{changed as changed_by};
 
-use vmx_model::Deed;
+use crate::Deed;
 use vmx_shared_area::offsets::{RX_MODE_END, TABLE_SIZE, VLAN_WORDS};
 use vmx_shared_area::{Filter, MacTable, Rss, Setup};
 

@@ -1,6 +1,6 @@
 use Rattle.std.proofs.Common.{rules, ◌≡◌, length}
-use Rattle.vmx_serial_queues.specs.Fits.{size_low, size_high, entries_below, rest_zero}
-use Rattle.vmx_serial_queues.proofs.setups.rss_of.Goals as goal
+use Rattle.vmx_model.proofs.Fits.{size_low, size_high, entries_below, rest_zero}
+use Rattle.vmx_model.proofs.changes.rss_of.Goals as goal
 
 pub invariant_of-result : goal.invariant_of-result
 invariant_of-result c = let a = c.args in let r = a.rss.now in
