@@ -1,1 +1,1 @@
-mod Joint
+pub mod Joint
