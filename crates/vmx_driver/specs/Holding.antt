@@ -236,8 +236,8 @@ module _ (v : DriverView) (s : SetupView) (opening : Bool) (left n m : ℕ) (h :
     looks_hold word key' calls' masks' a = regs_hold key' calls' masks' (record { turns = ap (λ (x : Calls). x.turns) a.0; asked = ap (λ (x : Calls). x.asked) a.0; interrupts = ap (λ (x : Calls). x.interrupts) a.0 })
 
     -- an answer with no ends was taken, where contracts saw the driver as w
-    pub takes_plain : (w : DriverView) (calls' later : Calls) (key' : List ℕ) (masks' : Masks) → v ≡ w → Waits v.at.stage → FindsOne handed v.calls calls' → later ≡ calls' → masks' ≡ (if is_opening v.calls.asked then unmasked (v.plan.setup.tx_queues + v.plan.setup.rx_queues + 1) v.masks else v.masks) → TakesAnswer w (record v { key = key'; calls = later; masks = masks' })
-    takes_plain w calls' later key' masks' e waits one same masked = subst (λ (x : Calls). TakesAnswer w (record v { key = key'; calls = x; masks = masks' })) (sym same) (found_one handed v w s calls' key' masks' h.runs waits some e one masked)
+    pub takes_plain : (w : DriverView) (calls' later : Calls) (key' : List ℕ) (masks' : Masks) → v ≡ w → Waits v.at.stage → FindsOne handed v.calls calls' → later ≡ calls' → masks' ≡ (if is_opening v.calls.asked then unmasked (v.plan.setup.tx_queues + v.plan.setup.rx_queues + 1) v.masks else v.masks) → key' ≡ v.key → TakesAnswer w (record v { key = key'; calls = later; masks = masks' })
+    takes_plain w calls' later key' masks' e waits one same masked key = subst (λ (x : Calls). TakesAnswer w (record v { key = key'; calls = x; masks = masks' })) (sym same) (found_one handed v w s calls' key' masks' h.runs waits some e one masked key)
 
     module _ (value : ℕ) (b : Bag E) (calls' : Calls) (a : Answers handed v.calls (Done value b) calls') where
       the : (c : CommandView) × (v.calls.asked ≡ Some c)

@@ -154,8 +154,8 @@ module _ {E : Type 0} (handed : E → HandedView) where
       interrupts = subst (λ (x : Calls). 16 < x.interrupts) (sym calls_is) k.interrupts;
     }
 
-    pub took : (w : DriverView) (stage : Stage) (key' : List ℕ) (masks' : Masks) (tx' : List TxDriverView) (rx' : List RxDriverView) (txs' : List TxDeviceView) (rxs' : List RxDeviceView) → v ≡ w → TakesEnds v.at.stage (answer_of handed value b).ends v (record v { at = record v.at { stage = stage }; key = key'; calls = calls'; masks = masks'; tx = tx'; rx = rx'; tx_held = txs'; rx_held = rxs' }) → masks' ≡ (if is_opening v.calls.asked then unmasked (v.plan.setup.tx_queues + v.plan.setup.rx_queues + 1) v.masks else v.masks) → TakesAnswer w (record v { at = record v.at { stage = stage }; key = key'; calls = calls'; masks = masks'; tx = tx'; rx = rx'; tx_held = txs'; rx_held = rxs' })
-    took w stage key' masks' tx' rx' txs' rxs' e moved masked = subst (λ (x : DriverView). TakesAnswer x (record v { at = record v.at { stage = stage }; key = key'; calls = calls'; masks = masks'; tx = tx'; rx = rx'; tx_held = txs'; rx_held = rxs' })) e (record {
+    pub took : (w : DriverView) (stage : Stage) (key' : List ℕ) (masks' : Masks) (tx' : List TxDriverView) (rx' : List RxDriverView) (txs' : List TxDeviceView) (rxs' : List RxDeviceView) → v ≡ w → TakesEnds v.at.stage (answer_of handed value b).ends v (record v { at = record v.at { stage = stage }; key = key'; calls = calls'; masks = masks'; tx = tx'; rx = rx'; tx_held = txs'; rx_held = rxs' }) → masks' ≡ (if is_opening v.calls.asked then unmasked (v.plan.setup.tx_queues + v.plan.setup.rx_queues + 1) v.masks else v.masks) → key' ≡ v.key → TakesAnswer w (record v { at = record v.at { stage = stage }; key = key'; calls = calls'; masks = masks'; tx = tx'; rx = rx'; tx_held = txs'; rx_held = rxs' })
+    took w stage key' masks' tx' rx' txs' rxs' e moved masked key = subst (λ (x : DriverView). TakesAnswer x (record v { at = record v.at { stage = stage }; key = key'; calls = calls'; masks = masks'; tx = tx'; rx = rx'; tx_held = txs'; rx_held = rxs' })) e (record {
       command = c;
       answer = answer_of handed value b;
       asked = is;
@@ -166,13 +166,14 @@ module _ {E : Type 0} (handed : E → HandedView) where
       masks = masked;
       received = refl;
       facts = (refl, refl);
+      same = (refl, refl, key);
     })
 
     -- the ends came back
     pub took_back : (w : DriverView) (t : Then) (e : E) (txs : List TxDeviceView) (rxs : List RxDeviceView) (key' : List ℕ) (masks' : Masks) (tx' : List TxDriverView) (rx' : List RxDriverView) (txs' : List TxDeviceView) (rxs' : List RxDeviceView) → v ≡ w → v.at.stage ≡ Stopping t → b.ends ≡ Some e → handed e ≡ ends_handed txs rxs
-        → PassedAllTx v.tx txs tx' txs' → PassedAllRx v.rx rxs rx' rxs' → masks' ≡ (if is_opening v.calls.asked then unmasked (v.plan.setup.tx_queues + v.plan.setup.rx_queues + 1) v.masks else v.masks)
+        → PassedAllTx v.tx txs tx' txs' → PassedAllRx v.rx rxs rx' rxs' → masks' ≡ (if is_opening v.calls.asked then unmasked (v.plan.setup.tx_queues + v.plan.setup.rx_queues + 1) v.masks else v.masks) → key' ≡ v.key
         → TakesAnswer w (record v { at = record v.at { stage = Held t }; key = key'; calls = calls'; masks = masks'; tx = tx'; rx = rx'; tx_held = txs'; rx_held = rxs' })
-    took_back w t e txs rxs key' masks' tx' rx' txs' rxs' same on some_e handed_is ptx prx masked = took w (Held t) key' masks' tx' rx' txs' rxs' same
+    took_back w t e txs rxs key' masks' tx' rx' txs' rxs' same on some_e handed_is ptx prx masked key = took w (Held t) key' masks' tx' rx' txs' rxs' same
         (ends_back v.at.stage t (answer_of handed value b).ends v (record v { at = record v.at { stage = Held t }; key = key'; calls = calls'; masks = masks'; tx = tx'; rx = rx'; tx_held = txs'; rx_held = rxs' }) on (record {
           stage = refl;
           txs = txs;
@@ -181,7 +182,7 @@ module _ {E : Type 0} (handed : E → HandedView) where
           tx = ptx;
           rx = prx;
         }))
-        masked
+        masked key
 
 -- ------------------------------------------------------------ numbers
 
@@ -227,7 +228,7 @@ module _ {E : Type 0} (handed : E → HandedView) where
   pub found_none : (v w : DriverView) (calls' : Calls) (key' : List ℕ) (masks' : Masks) → v ≡ w → key' ≡ v.key → masks' ≡ v.masks → FindsNone handed v.calls calls' → LooksOnce w (record v { key = key'; calls = calls'; masks = masks' })
   found_none v w calls' key' masks' e key masks h = subst (λ (x : List ℕ × Masks). LooksOnce w (record v { key = x.0; calls = calls'; masks = x.1 })) (λ i. (sym key i, sym masks i)) (looks_once handed v w h.0 calls' e h.1)
 
-  pub found_one : (v w : DriverView) (s : SetupView) (calls' : Calls) (key' : List ℕ) (masks' : Masks) → Runs v s → Waits v.at.stage → IsSome v.calls.asked → v ≡ w → FindsOne handed v.calls calls' → masks' ≡ (if is_opening v.calls.asked then unmasked (v.plan.setup.tx_queues + v.plan.setup.rx_queues + 1) v.masks else v.masks)
+  pub found_one : (v w : DriverView) (s : SetupView) (calls' : Calls) (key' : List ℕ) (masks' : Masks) → Runs v s → Waits v.at.stage → IsSome v.calls.asked → v ≡ w → FindsOne handed v.calls calls' → masks' ≡ (if is_opening v.calls.asked then unmasked (v.plan.setup.tx_queues + v.plan.setup.rx_queues + 1) v.masks else v.masks) → key' ≡ v.key
       → TakesAnswer w (record v { key = key'; calls = calls'; masks = masks' })
-  found_one v w s calls' key' masks' k waits some e h masked = let c = some_of v.calls.asked some in took handed v s h.0 h.1 calls' k c.0 c.1 h.2 w v.at.stage key' masks' v.tx v.rx v.tx_held v.rx_held e
-      (ends_kept v.at.stage (answer_of handed h.0 h.1).ends v (record v { key = key'; calls = calls'; masks = masks' }) waits (record { stage = refl; tx = (refl, refl); rx = (refl, refl) })) masked
+  found_one v w s calls' key' masks' k waits some e h masked key = let c = some_of v.calls.asked some in took handed v s h.0 h.1 calls' k c.0 c.1 h.2 w v.at.stage key' masks' v.tx v.rx v.tx_held v.rx_held e
+      (ends_kept v.at.stage (answer_of handed h.0 h.1).ends v (record v { key = key'; calls = calls'; masks = masks' }) waits (record { stage = refl; tx = (refl, refl); rx = (refl, refl) })) masked key

@@ -149,6 +149,7 @@ pub record TakesAnswer (old new : DriverView) : Type 0 where
   pub masks : new.masks ≡ (if is_opening old.calls.asked then unmasked (old.plan.setup.tx_queues + old.plan.setup.rx_queues + 1) old.masks else old.masks)
   pub received : new.received ≡ old.received
   pub facts : (new.tx_facts ≡ old.tx_facts) × (new.rx_facts ≡ old.rx_facts)
+  pub same : (new.guest ≡ old.guest) × (new.plan ≡ old.plan) × (new.key ≡ old.key)
 
 -- a command is sent with the setup in force in its image, and with no ends
 abbrev pub asking : Calls → ℕ → List ℕ → Option HandedView → Calls

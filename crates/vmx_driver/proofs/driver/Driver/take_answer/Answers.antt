@@ -25,3 +25,4 @@ pub returns-in-Some-clause-takes : goal.returns-in-Some-clause-takes
 returns-in-Some-clause-takes g c e = let a = some_of _ (subst (λ (v : Stocked). IsSome v.driver.calls.asked) (sym c.self.view_is) c.requires.asked) in
     took_back _ _ _ c.in-Done.value c.in-Done.bag _ c.self.invariant.runs a.0 a.1 c.in-Done.ensures.answer _ c.in-Stopping.then c.in-Some.ends _ _ _ _ _ _ _ _ (ap (λ (x : Stocked). x.driver) c.self.view_is) c.in-Stopping.is c.in-Some.is refl c.pass_all_tx.ensures.passed c.pass_all_rx.ensures.passed
     (c.answer.ensures.masks ∙ sym (ap (λ (b : Bool). if b then unmasked (c.self.inside.plan.now.setup.tx_queues + c.self.inside.plan.now.setup.rx_queues + 1) (driver_masks c.self.inside.regs) else driver_masks c.self.inside.regs) (no_opening _ _ _ _ _ _ c.self.invariant c.in-Stopping.then c.in-Stopping.is)))
+    c.answer.ensures.key

@@ -18,3 +18,4 @@ pub returns-clause-takes : goal.returns-clause-takes
 returns-clause-takes g c e = takes_plain _ _ _ _ _ _ c.self.invariant _ (subst (λ (v : Stocked). IsSome v.driver.calls.asked) (sym c.self.view_is) c.requires.asked) _ _ _ _ _ (ap (λ (x : Stocked). x.driver) c.self.view_is)
     (subst (λ (v : Stocked). Waits v.driver.at.stage) (sym c.self.view_is) c.requires.waits) (c.wait.ensures.one (search rules)) c.unmask_if.ensures.calls
     (c.unmask_if.ensures.masks ∙ (λ i. if c.self.invariant.opening_is i then unmasked (c.from.ensures i + c.from-2.ensures i + 1) (c.wait.ensures.masks i) else c.wait.ensures.masks i))
+    (c.unmask_if.ensures.key ∙ c.wait.ensures.key)
