@@ -207,17 +207,20 @@ sent_few : (ts : List Turn) (o : Option CommandView) → length ts ≤ length (m
 sent_few ts None = let a = length-map (commands_of ts) ask_by in let b = length-map ts (λ (t : Turn). t.command) in omega (arith, a, b)
 sent_few ts (Some c) = let a = length-map (commands_of ts ++ c ∷ []) ask_by in let b = length-map ts (λ (t : Turn). t.command) in let d = length-append (commands_of ts) (c ∷ []) in omega (arith, a, b, d)
 
--- a plan has few commands
-pub few_turns : (v : DriverView) (s : SetupView) → Runs v s → length v.calls.turns < 4611686018427387904
-few_turns v s k =
+-- a driver has sent no more commands than its plan has
+pub most_turns : (v : DriverView) → Keeps v → length v.calls.turns ≤ 2 * length v.plan.script + 2
+most_turns v k =
     let a = sent_few v.calls.turns v.calls.asked in
     let b = length-append (map ask_by (with_asked (commands_of v.calls.turns) v.calls.asked)) (asks_left v.plan v.at) in
-    let e = ap length k.keeps.commands.sent in
+    let e = ap length k.commands.sent in
     let d = deeds_few (first_setup v.plan) v.plan.script in
     let f = length-append (deed_asks (first_setup v.plan) v.plan.script) (closing v.plan) in
     let h = closing_few (closes v.plan) (record { number = quiesce_dev; setup = after_script (first_setup v.plan) v.plan.script }) in
-    let short = v.plan.script_length in
-    omega (arith, a, b, e, d, f, h, short)
+    omega (arith, a, b, e, d, f, h)
+
+-- and those are few
+pub few_turns : (v : DriverView) (s : SetupView) → Runs v s → length v.calls.turns < 4611686018427387904
+few_turns v s k = let most = most_turns v k.keeps in let short = v.plan.script_length in omega (arith, most, short)
 
 module _ {E : Type 0} (handed : E → HandedView) where
   -- a look or an answer
