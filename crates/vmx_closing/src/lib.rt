@@ -2,7 +2,7 @@
 //! implementation.
 #![tactic(auto)]
 
-ghost use Rattle.std.specs.Prelude.{◌≡◌, ℕ, ◌*◌, ◌<◌, ◌≤◌, [], ◌∷◌, ◌++◌, true, false, slice_index_or, vec_len, vec_capacity};
+ghost use Rattle.std.specs.Prelude.{◌≡◌, ℕ, ◌+◌, ◌*◌, ◌<◌, ◌≤◌, [], ◌∷◌, ◌++◌, length, true, false, slice_index_or, vec_len, vec_capacity};
 ghost use Rattle.std.specs.Arc.{arc_value};
 ghost use Rattle.std.specs.Mem.Slots.{slots_items, slots_filled, slots_len, IsFull};
 ghost use Rattle.std.specs.List.{flat_map};
@@ -28,6 +28,18 @@ pub trait WritesDown<S> {
         ensures room { vec_capacity into.old ≤ vec_capacity into.new };
 
     ghost few: { (x : S) → length (bytes x) ≤ most };
+}
+
+/// Puts bytes behind those that are there, in room that is there: it takes no memory.
+pub fn append(bytes: &[u8], into: &mut Vec<u8>)
+    requires room { vec_len into.old + length bytes.now ≤ vec_capacity into.old }
+    ensures items { into.new.items ≡ into.old.items ++ bytes.now }
+    ensures room { vec_capacity into.old ≤ vec_capacity into.new }
+{
+    match into.extend_from_slice(bytes) {
+        Ok(()) => {}
+        Err(_) => unreachable!(),
+    }
 }
 
 /// A table that no seat steps over any more.

@@ -12,7 +12,7 @@ const LEAST: usize = 60;
 /// How many lengths there are: 60 to 9,014 bytes.
 const LENGTHS: u64 = 8_955;
 
-/// How many places of the text a frame begins at.
+/// How many places of the text a frame begins at; the text's bytes go round with as many values.
 const STARTS: u64 = 251;
 
 /// The bytes of the text: the last start, and a frame of 9,014 bytes from there.
@@ -24,7 +24,7 @@ pub fn text(alloc: Global) -> Result<Vec<u8>, AllocError>
 {
     let mut text = Vec::from_elem(alloc, 0u8, TEXT)?;
     for place in 0..TEXT {
-        text[place] = (place % 251) as u8;
+        text[place] = (place as u64 % STARTS) as u8;
     }
     Ok(text)
 }

@@ -1,32 +1,23 @@
 //! Frames a second through the receive queue of words, on one thread and on two. A frame is copied into the buffers of
 //! its descriptors, and out of them.
-ghost use Rattle.std.specs.Prelude.{◌≡◌, ◌≤◌, ◌<◌, ◌+◌, ◌*◌, ◌^◌, [], true, length, vec_capacity};
+ghost use Rattle.std.specs.Prelude.{◌≡◌, ◌≤◌, [], true, length, vec_capacity};
 ghost use Rattle.vmx_io.specs.declared.buffer.TheConstants.{MAX_FRAME};
-ghost use Rattle.vmx_ends.specs.Frames.{IsFrame};
-ghost use Rattle.vmx_ends.specs.Receive.{used, pieces_of, consumed1, consumed2};
 ghost use Rattle.vmx_rxq.specs.Ends.{driver_view, device_view};
 ghost use Rattle.vmx_queue_bench.specs.declared.frames.TheConstants.{TEXT};
 
 use crate::frames::{frame_of, roomy, text};
+use crate::rx_steps::{delivers, receives};
+use crate::{NAME, TRIES};
 use std::alloc::Global;
 use std::rt::Clock;
 use std::thread;
 use std::thread::Threads;
 use std::time::Instant;
-use vmx_ends::{Deliver, MAX_FRAME, QueueName, Receive, RxDevice, RxDriver, RxMeta};
+use vmx_ends::RxMeta;
 use vmx_rxq::{RxDeviceEnd, RxDriverEnd, make};
 
 /// The descriptors of each ring.
 const SIZE: u32 = 256;
-
-/// A queue is looked at no more often than this.
-const TRIES: u64 = 1 << 40;
-
-const NAME: QueueName = QueueName {
-    guest: 0,
-    activation: 0,
-    queue: 0,
-};
 
 /// No hash and no tag.
 const PLAIN: RxMeta = RxMeta {
@@ -34,46 +25,6 @@ const PLAIN: RxMeta = RxMeta {
     kind: 0,
     tci: None,
 };
-
-/// Delivers a frame. It tells whether all its buffers were there.
-fn delivers(device: &mut RxDeviceEnd, frame: &[u8]) -> bool
-    requires frame { IsFrame frame.now }
-    requires small { (length (device_view device.old).delivered < 2 ^ 61) × (length (device_view device.old).refused < 2 ^ 61) }
-    requires positions { (consumed1 (device_view device.old) < 2 ^ 61) × (consumed2 (device_view device.old) < 2 ^ 61) }
-    ensures lists { (length (device_view device.new).delivered ≤ length (device_view device.old).delivered + 1) × (length (device_view device.new).refused ≤ length (device_view device.old).refused + 1) }
-    ensures positions { (consumed1 (device_view device.new) ≤ consumed1 (device_view device.old) + 16) × (consumed2 (device_view device.new) ≤ consumed2 (device_view device.old) + 16) }
-{
-    match device.deliver(frame, &PLAIN) {
-        Deliver::Done { place: _ } => true,
-        Deliver::NoBuffer {
-            ring: _,
-            position: _,
-            word: _,
-            look: _,
-        } => false,
-        Deliver::Bad { words: _, fault: _ } => false,
-    }
-}
-
-/// Receives a frame and posts its descriptors back. It tells whether there was one.
-fn receives(driver: &mut RxDriverEnd, into: &mut Vec<u8>) -> bool
-    requires room { MAX_FRAME ≤ vec_capacity into.old }
-    requires full { (driver_view driver.old).made.full ≡ true }
-    requires small { (length (driver_view driver.old).received < 2 ^ 61) × (used pieces_of (driver_view driver.old).received < 2 ^ 61) }
-    ensures full { (driver_view driver.new).made.full ≡ true }
-    ensures grows { (length (driver_view driver.new).received ≤ length (driver_view driver.old).received + 1) × (used pieces_of (driver_view driver.new).received ≤ used pieces_of (driver_view driver.old).received + 16) }
-    ensures room { vec_capacity into.old ≤ vec_capacity into.new }
-{
-    into.clear();
-    match driver.receive(into) {
-        Receive::Frame {
-            place: _,
-            meta: _,
-            descriptors: _,
-        } => true,
-        Receive::NotYet { word: _ } => false,
-    }
-}
 
 /// Delivers and receives this many frames, one after the other.
 fn one_by_one(
@@ -92,7 +43,7 @@ fn one_by_one(
     let mut device = device;
     let mut into = into;
     for done in 0..count {
-        let through = delivers(&mut device, frame_of(text, u64::from(done)))
+        let through = delivers(&mut device, frame_of(text, u64::from(done)), &PLAIN)
             && receives(&mut driver, &mut into);
         if !through {
             return done;
@@ -112,7 +63,7 @@ fn send(device: RxDeviceEnd, text: &[u8], count: u32) -> u32
         if number == count {
             break;
         }
-        if delivers(&mut device, frame_of(text, u64::from(number))) {
+        if delivers(&mut device, frame_of(text, u64::from(number)), &PLAIN) {
             number += 1;
         } else {
             thread::yield_now();

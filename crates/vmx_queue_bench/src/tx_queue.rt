@@ -1,83 +1,23 @@
 //! Frames a second through the transmit queue of words, on one thread and on two. A frame is copied into the buffers of
 //! its descriptors, and out of them.
-ghost use Rattle.std.specs.Prelude.{◌≡◌, ◌≤◌, ◌<◌, ◌+◌, ◌*◌, ◌^◌, [], length, vec_capacity};
+ghost use Rattle.std.specs.Prelude.{◌≡◌, ◌≤◌, [], length, vec_capacity};
 ghost use Rattle.vmx_io.specs.declared.buffer.TheConstants.{MAX_FRAME};
-ghost use Rattle.vmx_ends.specs.Frames.{IsFrame};
-ghost use Rattle.vmx_ends.specs.Transmit.{posted, found_in};
-ghost use Rattle.vmx_ends.specs.TransmitClauses.{IsIdle};
 ghost use Rattle.vmx_txq.specs.Ends.{driver_view, device_view};
 ghost use Rattle.vmx_queue_bench.specs.declared.frames.TheConstants.{TEXT};
 
 use crate::frames::{frame_of, roomy, text};
+use crate::tx_steps::{posts, reaps, takes};
+use crate::{NAME, TRIES};
 use std::alloc::Global;
 use std::rt::Clock;
 use std::thread;
 use std::thread::Threads;
 use std::time::Instant;
-use vmx_ends::{MAX_FRAME, Post, QueueName, Reap, Take, TxDevice, TxDriver, TxMark};
+use vmx_ends::{MAX_PIECE, TxMark};
 use vmx_txq::{TxDeviceEnd, TxDriverEnd, make};
 
 /// The descriptors of the ring.
 const SIZE: u32 = 512;
-
-/// The bytes of a buffer.
-const PIECE: u32 = 4_096;
-
-/// A queue is looked at no more often than this.
-const TRIES: u64 = 1 << 40;
-
-const NAME: QueueName = QueueName {
-    guest: 0,
-    activation: 0,
-    queue: 0,
-};
-
-/// Posts a frame. It tells whether there was room.
-fn posts(driver: &mut TxDriverEnd, frame: &[u8]) -> bool
-    requires frame { IsFrame frame.now }
-    requires small { (length (driver_view driver.old).sent < 2 ^ 61) × (posted (driver_view driver.old) < 2 ^ 61) }
-    ensures grows { (length (driver_view driver.new).sent ≤ length (driver_view driver.old).sent + 1) × (posted (driver_view driver.new) ≤ posted (driver_view driver.old) + 16) × ((driver_view driver.new).reaped ≡ (driver_view driver.old).reaped) }
-{
-    match driver.post(frame, &TxMark::plain()) {
-        Post::Done { place: _ } => true,
-        Post::Full { used: _, need: _ } => false,
-    }
-}
-
-/// Reaps a frame. It tells whether one was completed.
-fn reaps(driver: &mut TxDriverEnd) -> bool
-    requires small { (driver_view driver.old).reaped < 2 ^ 61 }
-    ensures sent { (length (driver_view driver.new).sent ≡ length (driver_view driver.old).sent) × (posted (driver_view driver.new) ≡ posted (driver_view driver.old)) }
-    ensures grows { (driver_view driver.new).reaped ≤ (driver_view driver.old).reaped + 1 }
-{
-    match driver.reap() {
-        Reap::Done {
-            place: _,
-            descriptors: _,
-        } => true,
-        Reap::NotYet { word: _ } => false,
-    }
-}
-
-/// Takes a frame and completes it. It tells whether there was one.
-fn takes(device: &mut TxDeviceEnd, into: &mut Vec<u8>) -> bool
-    requires room { MAX_FRAME ≤ vec_capacity into.old }
-    requires idle { IsIdle (device_view device.old) }
-    requires small { (length (device_view device.old).taken < 2 ^ 61) × (found_in (device_view device.old).taken < 2 ^ 61) }
-    ensures idle { IsIdle (device_view device.new) }
-    ensures grows { (length (device_view device.new).taken ≤ length (device_view device.old).taken + 1) × (found_in (device_view device.new).taken ≤ found_in (device_view device.old).taken + 16) }
-    ensures room { vec_capacity into.old ≤ vec_capacity into.new }
-{
-    into.clear();
-    match device.take(into) {
-        Take::Frame { place: _, mark: _ } => {
-            device.complete();
-            true
-        }
-        Take::Empty { word: _ } => false,
-        Take::Bad { words: _, fault: _ } => false,
-    }
-}
 
 /// Posts, takes, completes and reaps this many frames, one after the other.
 fn one_by_one(
@@ -96,8 +36,11 @@ fn one_by_one(
     let mut device = device;
     let mut into = into;
     for done in 0..count {
-        let through = posts(&mut driver, frame_of(text, u64::from(done)))
-            && takes(&mut device, &mut into)
+        let through = posts(
+            &mut driver,
+            frame_of(text, u64::from(done)),
+            &TxMark::plain(),
+        ) && takes(&mut device, &mut into)
             && reaps(&mut driver);
         if !through {
             return done;
@@ -117,7 +60,11 @@ fn send(driver: TxDriverEnd, text: &[u8], count: u32) -> u32
         if number == count {
             break;
         }
-        if posts(&mut driver, frame_of(text, u64::from(number))) {
+        if posts(
+            &mut driver,
+            frame_of(text, u64::from(number)),
+            &TxMark::plain(),
+        ) {
             number += 1;
         } else if !reaps(&mut driver) {
             thread::yield_now();
@@ -155,14 +102,14 @@ pub fn measure<R: Print + Clock + Threads + Sync>(
 ) -> anyhow::Result<()> {
     let text = text(alloc)?;
     let text = text.as_slice();
-    let (driver, device) = make(alloc, NAME, SIZE, PIECE, false)?;
+    let (driver, device) = make(alloc, NAME, SIZE, MAX_PIECE, false)?;
     let into = roomy(alloc)?;
     let start = Instant::now(rt)?;
     let done = one_by_one(driver, device, into, text, count);
     let took = start.elapsed(rt)?.as_nanos();
     println!(rt; "one-thread {done} {took}")?;
 
-    let (driver, device) = make(alloc, NAME, SIZE, PIECE, false)?;
+    let (driver, device) = make(alloc, NAME, SIZE, MAX_PIECE, false)?;
     let into = roomy(alloc)?;
     let start = Instant::now(rt)?;
     let (sent, taken) = thread::join(

@@ -1,12 +1,22 @@
 //! The frames of the list, and what goes with them.
-ghost use Rattle.std.specs.Prelude.{◌≤◌, vec_len, vec_capacity, IfOk};
-ghost use Rattle.vmx_io.specs.declared.buffer.TheConstants.{MAX_FRAME};
+ghost use Rattle.std.specs.Prelude.{◌≤◌, vec_len, IfOk};
 
 use std::alloc::{AllocError, Global};
-use vmx_ends::{MAX_FRAME, RxMeta, TxMark};
+use vmx_ends::{MAX_PIECE, RxMeta, TxMark};
+use vmx_layout::DATA_ENTRY_SIZE;
 
 /// How many frames go through each queue.
 pub(crate) const FRAMES: u64 = 48;
+
+/// The bytes of a frame that fills a data entry, and of one that fills a data entry and a buffer of 4,096 bytes.
+const IN_ENTRY: usize = DATA_ENTRY_SIZE as usize;
+
+const IN_BOTH: usize = DATA_ENTRY_SIZE as usize + MAX_PIECE as usize;
+
+/// A frame's bytes go round with so many values, and begin with so much more in each further frame.
+const VALUES: u64 = 251;
+
+const STEP: u64 = 7;
 
 /// The bytes of the frame with this number.
 pub(crate) fn length_of(number: u64) -> usize
@@ -17,8 +27,8 @@ pub(crate) fn length_of(number: u64) -> usize
         0 => 60,
         1 => 9_014,
         2 => 1_514,
-        3 => 128,
-        _ => 4_224,
+        3 => IN_ENTRY,
+        _ => IN_BOTH,
     }
 }
 
@@ -31,7 +41,7 @@ pub(crate) fn frame_of(alloc: Global, number: u64) -> Result<Vec<u8>, AllocError
     let count = length_of(number);
     let mut frame = Vec::from_elem(alloc, 0u8, count)?;
     for place in 0..count {
-        frame[place] = ((place as u64 + 7 * number) % 251) as u8;
+        frame[place] = ((place as u64 + STEP * number) % VALUES) as u8;
     }
     Ok(frame)
 }
@@ -85,13 +95,4 @@ pub(crate) fn meta_of(number: u64) -> RxMeta {
             tci: Some(0xE00A),
         },
     }
-}
-
-/// An empty buffer with room for a frame.
-pub(crate) fn roomy(alloc: Global) -> Result<Vec<u8>, AllocError>
-    ensures room { IfOk result (λ v. MAX_FRAME ≤ vec_capacity v) }
-{
-    let mut into = Vec::new(alloc);
-    into.reserve(MAX_FRAME)?;
-    Ok(into)
 }

@@ -7,6 +7,10 @@ mod rx;
 mod section;
 mod tx;
 
+ghost use Rattle.std.specs.Prelude.{IfOk};
+ghost use mathlib.Core.List.{IsPrefix};
+ghost use Rattle.vmx_ring_samples.specs.Rings.{AddsRings};
+
 use std::alloc::{AllocError, Global};
 
 /// Puts four sections behind the bytes that are there: the transmit queue with a data ring and without, and so the receive
@@ -14,8 +18,11 @@ use std::alloc::{AllocError, Global};
 ///
 /// # Errors
 ///
-/// Want of memory.
-pub fn put_rings(alloc: Global, into: &mut Vec<u8>) -> Result<bool, AllocError> {
+/// Want of memory: some sections and the front of one more may stand behind the bytes then.
+pub fn put_rings(alloc: Global, into: &mut Vec<u8>) -> Result<bool, AllocError>
+    ensures behind { IsPrefix into.old.items into.new.items }
+    ensures prints { IfOk result (λ done. AddsRings done into.old.items into.new.items) }
+{
     let with_data = tx::put(alloc, true, into)?;
     let without = tx::put(alloc, false, into)?;
     let received_with_data = rx::put(alloc, true, into)?;

@@ -1,64 +1,41 @@
 //! The receive queue: 32 descriptors in each ring, one BODY behind each HEAD of ring 1.
-ghost use Rattle.std.specs.Prelude.{◌≡◌, ◌≤◌, ◌<◌, ◌+◌, ◌^◌, [], true, length, vec_capacity, IfOk};
-ghost use Rattle.vmx_io.specs.declared.buffer.TheConstants.{MAX_FRAME};
-ghost use Rattle.vmx_ends.specs.Receive.{used, pieces_of, consumed1, consumed2};
+ghost use Rattle.std.specs.Prelude.{◌≡◌, [], true, IfOk};
+ghost use mathlib.Core.List.{IsPrefix};
 ghost use Rattle.vmx_rxq.specs.Ends.{driver_view, device_view};
+ghost use Rattle.vmx_ring_samples.specs.Rings.{ShowsRx, AddsRx};
 
-use crate::frames::{FRAMES, frame_of, meta_of, roomy};
+use crate::frames::{FRAMES, frame_of, meta_of};
 use crate::section;
 use std::alloc::{AllocError, Global};
-use vmx_ends::{Deliver, MAX_FRAME, QueueName, Receive, RxDevice, RxDriver, RxMeta};
-use vmx_rxq::{RxDeviceEnd, RxDriverEnd, make, write_down};
+use vmx_ends::QueueName;
+use vmx_queue_bench::roomy;
+use vmx_queue_bench::rx_steps::{delivers, receives};
+use vmx_rxq::{MAX_SLOT_SIZE, RxDeviceEnd, RxDriverEnd, make, write_down};
 
-/// The queue's number among its guest's, and how many these are.
-const QUEUE: u32 = 2;
+/// What a section of a receive queue begins with.
+const RECEIVE: u32 = 2;
 
+/// The queue's name: its number is 2 among its guest's.
+const NAME: QueueName = QueueName {
+    guest: 0,
+    activation: 0,
+    queue: 2,
+};
+
+/// How many receive queues the guest has.
 const QUEUES: u32 = 4;
 
+/// The descriptors of each ring.
 const SIZE: u32 = 32;
 
+/// The BODY descriptors behind each HEAD of ring 1.
 const BODIES: u32 = 1;
 
-/// Delivers a frame. It tells whether all its buffers were there.
-fn delivers(device: &mut RxDeviceEnd, frame: &[u8], meta: &RxMeta) -> bool
-    requires frame { (60 ≤ length frame.now) × (length frame.now ≤ 9014) }
-    requires small { (length (device_view device.old).delivered < 2 ^ 61) × (length (device_view device.old).refused < 2 ^ 61) }
-    requires positions { (consumed1 (device_view device.old) < 2 ^ 61) × (consumed2 (device_view device.old) < 2 ^ 61) }
-    ensures same { (device_view device.new).key ≡ (device_view device.old).key }
-    ensures lists { (length (device_view device.new).delivered ≤ length (device_view device.old).delivered + 1) × (length (device_view device.new).refused ≤ length (device_view device.old).refused + 1) }
-    ensures positions { (consumed1 (device_view device.new) ≤ consumed1 (device_view device.old) + 16) × (consumed2 (device_view device.new) ≤ consumed2 (device_view device.old) + 16) }
-{
-    match device.deliver(frame, meta) {
-        Deliver::Done { place: _ } => true,
-        Deliver::NoBuffer {
-            ring: _,
-            position: _,
-            word: _,
-            look: _,
-        } => false,
-        Deliver::Bad { words: _, fault: _ } => false,
-    }
-}
+/// The words of the queue, of 64 bits: two of each descriptor of both rings, and two of its completion.
+const WORDS: usize = 4 * (SIZE as usize + SIZE as usize);
 
-/// Receives a frame and posts its descriptors back. It tells whether there was one.
-fn receives(driver: &mut RxDriverEnd, into: &mut Vec<u8>) -> bool
-    requires room { MAX_FRAME ≤ vec_capacity into.old }
-    requires full { (driver_view driver.old).made.full ≡ true }
-    requires small { (length (driver_view driver.old).received < 2 ^ 61) × (used pieces_of (driver_view driver.old).received < 2 ^ 61) }
-    ensures same { ((driver_view driver.new).key ≡ (driver_view driver.old).key) × ((driver_view driver.new).made ≡ (driver_view driver.old).made) }
-    ensures grows { (length (driver_view driver.new).received ≤ length (driver_view driver.old).received + 1) × (used pieces_of (driver_view driver.new).received ≤ used pieces_of (driver_view driver.old).received + 16) }
-    ensures room { vec_capacity into.old ≤ vec_capacity into.new }
-{
-    into.clear();
-    match driver.receive(into) {
-        Receive::Frame {
-            place: _,
-            meta: _,
-            descriptors: _,
-        } => true,
-        Receive::NotYet { word: _ } => false,
-    }
-}
+/// The most bytes of all slots.
+const BYTES: usize = (SIZE as usize + SIZE as usize) * MAX_SLOT_SIZE;
 
 /// Delivers all frames in turn, and from the fourth on receives the third one before it. It tells whether each call found
 /// what it looks for.
@@ -83,23 +60,37 @@ fn passes(
     Ok(all)
 }
 
-/// Puts the section of a new queue through which the frames went. It tells whether they did.
-pub(crate) fn put(alloc: Global, with_data: bool, into: &mut Vec<u8>) -> Result<bool, AllocError> {
-    let name = QueueName {
-        guest: 0,
-        activation: 0,
-        queue: QUEUE,
-    };
-    let (mut driver, mut device) = make(alloc, name, SIZE, SIZE, BODIES, QUEUES, with_data)?;
+/// The words and buffers of a new queue through which the frames went, behind whether they did.
+///
+/// # Errors
+///
+/// Want of memory.
+fn filled(alloc: Global, with_data: bool) -> Result<(bool, Vec<u64>, Vec<u8>), AllocError>
+    ensures shows { IfOk result (λ f. ShowsRx with_data f.0 f.1.items f.2.items) }
+{
+    let (mut driver, mut device) = make(alloc, NAME, SIZE, SIZE, BODIES, QUEUES, with_data)?;
     let through = passes(&mut driver, &mut device, alloc)?;
     let mut words = Vec::new(alloc);
-    words.reserve(256)?;
+    words.reserve(WORDS)?;
     let mut buffers = Vec::new(alloc);
-    buffers.reserve(270_336)?;
+    buffers.reserve(BYTES)?;
     let written = write_down(driver, device, &mut words, &mut buffers);
+    Ok((through && written, words, buffers))
+}
+
+/// Puts the section of a new queue through which the frames went. It tells whether they did.
+///
+/// # Errors
+///
+/// Want of memory.
+pub(crate) fn put(alloc: Global, with_data: bool, into: &mut Vec<u8>) -> Result<bool, AllocError>
+    ensures behind { IsPrefix into.old.items into.new.items }
+    ensures prints { IfOk result (λ done. AddsRx with_data done into.old.items into.new.items) }
+{
+    let (done, words, buffers) = filled(alloc, with_data)?;
     let head = [
-        2,
-        QUEUE,
+        RECEIVE,
+        NAME.queue,
         QUEUES,
         SIZE,
         SIZE,
@@ -108,5 +99,5 @@ pub(crate) fn put(alloc: Global, with_data: bool, into: &mut Vec<u8>) -> Result<
         u32::from(with_data),
     ];
     section::put(&head, words.as_slice(), buffers.as_slice(), into)?;
-    Ok(through && written)
+    Ok(done)
 }

@@ -1,72 +1,35 @@
 //! The transmit queue: 32 descriptors, buffers of 4,096 bytes.
-ghost use Rattle.std.specs.Prelude.{◌≡◌, ◌≤◌, ◌<◌, ◌+◌, ◌^◌, [], length, vec_capacity, IfOk};
-ghost use Rattle.vmx_io.specs.declared.buffer.TheConstants.{MAX_FRAME};
-ghost use Rattle.vmx_ends.specs.Transmit.{posted, found_in};
-ghost use Rattle.vmx_ends.specs.TransmitClauses.{IsIdle};
+ghost use Rattle.std.specs.Prelude.{◌≡◌, [], IfOk};
+ghost use mathlib.Core.List.{IsPrefix};
 ghost use Rattle.vmx_txq.specs.Ends.{driver_view, device_view};
+ghost use Rattle.vmx_ring_samples.specs.Rings.{ShowsTx, AddsTx};
 
-use crate::frames::{FRAMES, frame_of, mark_of, roomy};
+use crate::frames::{FRAMES, frame_of, mark_of};
 use crate::section;
 use std::alloc::{AllocError, Global};
-use vmx_ends::{MAX_FRAME, Post, QueueName, Reap, Take, TxDevice, TxDriver, TxMark};
-use vmx_txq::{TxDeviceEnd, TxDriverEnd, make, write_down};
+use vmx_ends::{MAX_PIECE, QueueName};
+use vmx_queue_bench::roomy;
+use vmx_queue_bench::tx_steps::{posts, reaps, takes};
+use vmx_txq::{SLOT_SIZE, TxDeviceEnd, TxDriverEnd, make, write_down};
 
-/// The queue's number among its guest's.
-const QUEUE: u32 = 3;
+/// What a section of a transmit queue begins with.
+const TRANSMIT: u32 = 1;
 
+/// The queue's name: its number is 3 among its guest's.
+const NAME: QueueName = QueueName {
+    guest: 0,
+    activation: 0,
+    queue: 3,
+};
+
+/// The descriptors of the ring.
 const SIZE: u32 = 32;
 
-const PIECE: u32 = 4_096;
+/// The words of the queue, of 64 bits: two of each descriptor, and two of its completion.
+const WORDS: usize = 4 * SIZE as usize;
 
-/// Posts a frame. It tells whether there was room.
-fn posts(driver: &mut TxDriverEnd, frame: &[u8], mark: &TxMark) -> bool
-    requires frame { (60 ≤ length frame.now) × (length frame.now ≤ 9014) }
-    requires small { (length (driver_view driver.old).sent < 2 ^ 61) × (posted (driver_view driver.old) < 2 ^ 61) }
-    ensures same { ((driver_view driver.new).key ≡ (driver_view driver.old).key) × ((driver_view driver.new).made ≡ (driver_view driver.old).made) }
-    ensures grows { (length (driver_view driver.new).sent ≤ length (driver_view driver.old).sent + 1) × (posted (driver_view driver.new) ≤ posted (driver_view driver.old) + 16) × ((driver_view driver.new).reaped ≡ (driver_view driver.old).reaped) }
-{
-    match driver.post(frame, mark) {
-        Post::Done { place: _ } => true,
-        Post::Full { used: _, need: _ } => false,
-    }
-}
-
-/// Takes a frame and completes it. It tells whether there was one.
-fn takes(device: &mut TxDeviceEnd, into: &mut Vec<u8>) -> bool
-    requires room { MAX_FRAME ≤ vec_capacity into.old }
-    requires idle { IsIdle (device_view device.old) }
-    requires small { (length (device_view device.old).taken < 2 ^ 61) × (found_in (device_view device.old).taken < 2 ^ 61) }
-    ensures same { (device_view device.new).key ≡ (device_view device.old).key }
-    ensures idle { IsIdle (device_view device.new) }
-    ensures grows { (length (device_view device.new).taken ≤ length (device_view device.old).taken + 1) × (found_in (device_view device.new).taken ≤ found_in (device_view device.old).taken + 16) }
-    ensures room { vec_capacity into.old ≤ vec_capacity into.new }
-{
-    into.clear();
-    match device.take(into) {
-        Take::Frame { place: _, mark: _ } => {
-            device.complete();
-            true
-        }
-        Take::Empty { word: _ } => false,
-        Take::Bad { words: _, fault: _ } => false,
-    }
-}
-
-/// Reaps a frame. It tells whether one was completed.
-fn reaps(driver: &mut TxDriverEnd) -> bool
-    requires small { (driver_view driver.old).reaped < 2 ^ 61 }
-    ensures same { ((driver_view driver.new).key ≡ (driver_view driver.old).key) × ((driver_view driver.new).made ≡ (driver_view driver.old).made) }
-    ensures sent { (length (driver_view driver.new).sent ≡ length (driver_view driver.old).sent) × (posted (driver_view driver.new) ≡ posted (driver_view driver.old)) }
-    ensures grows { (driver_view driver.new).reaped ≤ (driver_view driver.old).reaped + 1 }
-{
-    match driver.reap() {
-        Reap::Done {
-            place: _,
-            descriptors: _,
-        } => true,
-        Reap::NotYet { word: _ } => false,
-    }
-}
+/// The bytes of all slots.
+const BYTES: usize = SIZE as usize * SLOT_SIZE;
 
 /// Posts all frames in turn. From the third on, the frame before the last is taken and completed, and from the sixth on, the
 /// fifth one before it is reaped. It tells whether each call found what it looks for.
@@ -92,21 +55,44 @@ fn passes(
     Ok(all)
 }
 
-/// Puts the section of a new queue through which the frames went. It tells whether they did.
-pub(crate) fn put(alloc: Global, with_data: bool, into: &mut Vec<u8>) -> Result<bool, AllocError> {
-    let name = QueueName {
-        guest: 0,
-        activation: 0,
-        queue: QUEUE,
-    };
-    let (mut driver, mut device) = make(alloc, name, SIZE, PIECE, with_data)?;
+/// The words and buffers of a new queue through which the frames went, behind whether they did.
+///
+/// # Errors
+///
+/// Want of memory.
+fn filled(alloc: Global, with_data: bool) -> Result<(bool, Vec<u64>, Vec<u8>), AllocError>
+    ensures shows { IfOk result (λ f. ShowsTx with_data f.0 f.1.items f.2.items) }
+{
+    let (mut driver, mut device) = make(alloc, NAME, SIZE, MAX_PIECE, with_data)?;
     let through = passes(&mut driver, &mut device, alloc)?;
     let mut words = Vec::new(alloc);
-    words.reserve(128)?;
+    words.reserve(WORDS)?;
     let mut buffers = Vec::new(alloc);
-    buffers.reserve(135_168)?;
+    buffers.reserve(BYTES)?;
     let written = write_down(driver, device, &mut words, &mut buffers);
-    let head = [1, QUEUE, 0, SIZE, 0, 0, PIECE, u32::from(with_data)];
+    Ok((through && written, words, buffers))
+}
+
+/// Puts the section of a new queue through which the frames went. It tells whether they did.
+///
+/// # Errors
+///
+/// Want of memory.
+pub(crate) fn put(alloc: Global, with_data: bool, into: &mut Vec<u8>) -> Result<bool, AllocError>
+    ensures behind { IsPrefix into.old.items into.new.items }
+    ensures prints { IfOk result (λ done. AddsTx with_data done into.old.items into.new.items) }
+{
+    let (done, words, buffers) = filled(alloc, with_data)?;
+    let head = [
+        TRANSMIT,
+        NAME.queue,
+        0,
+        SIZE,
+        0,
+        0,
+        MAX_PIECE,
+        u32::from(with_data),
+    ];
     section::put(&head, words.as_slice(), buffers.as_slice(), into)?;
-    Ok(through && written)
+    Ok(done)
 }

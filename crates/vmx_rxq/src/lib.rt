@@ -17,4 +17,4 @@ pub use driver::RxDriverEnd;
 pub use facts::RxQueueFacts;
 pub use life::{make, meet};
 pub use notes::RxNoteEnd;
-pub use shown::{word, write_down};
+pub use shown::{MAX_SLOT_SIZE, word, write_down};

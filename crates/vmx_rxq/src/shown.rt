@@ -6,10 +6,15 @@ ghost use Rattle.vmx_rxq.specs.Ends.{device_view, driver_view};
 use crate::device::RxDeviceEnd;
 use crate::driver::RxDriverEnd;
 use atomic_table::Play;
-use vmx_closing::WritesDown;
+use vmx_closing::{WritesDown, append};
+use vmx_ends::BODY_SIZE;
+use vmx_layout::DATA_ENTRY_SIZE;
 use vmx_rx_ends::{RxFiller, RxReader, word_of};
 use vmx_rx_ring::steps::Together;
 use vmx_rx_ring::{Buffer, Known};
+
+/// The most bytes of a slot: the buffer of a BODY, 4,096 bytes, and its data entry of 128.
+pub const MAX_SLOT_SIZE: usize = BODY_SIZE as usize + DATA_ENTRY_SIZE as usize;
 
 /// The word of the queue's table with this index, below four times the descriptors of both rings, as it stands between two
 /// calls of the two ends: for whoever holds the words against another implementation of the rings.
@@ -28,10 +33,11 @@ struct WithEntry;
 
 impl WritesDown<Buffer> for WithEntry {
     ghost use Rattle.vmx_rx_ends.specs.Standing.{bytes_of};
+    ghost use Rattle.vmx_rxq.specs.declared.shown.TheConstants.{MAX_SLOT_SIZE};
 
     ghost bytes = { bytes_of };
 
-    ghost most = { 4224 };
+    ghost most = { MAX_SLOT_SIZE };
 
     fn put(buffer: &Buffer, into: &mut Vec<u8>) {
         append(buffer.bytes.as_slice(), into);
@@ -52,18 +58,6 @@ impl Play<Buffer, Known> for CountsSlots {
     ghost then = { counted_slots };
 }
 
-/// Puts bytes behind those that are there.
-fn append(bytes: &[u8], into: &mut Vec<u8>)
-    requires room { vec_len into.old + length bytes.now ≤ vec_capacity into.old }
-    ensures items { into.new.items ≡ into.old.items ++ bytes.now }
-    ensures room { vec_capacity into.old ≤ vec_capacity into.new }
-{
-    match into.extend_from_slice(bytes) {
-        Ok(()) => {}
-        Err(_) => unreachable!(),
-    }
-}
-
 /// Lets the two ends of one queue go, and writes down what stands in its table: its words, four for each descriptor of both
 /// rings, and slot by slot the bytes of the buffer, 2,048 of a HEAD and 4,096 of a BODY, and the 128 of its data entry. Both
 /// are empty and have room, of 4,224 bytes a slot; no memory is taken. It tells whether it did, which it does where nobody
@@ -77,7 +71,7 @@ pub fn write_down(
     requires keys { (driver_view driver).key ≡ (device_view device).key }
     requires empty { (vec_len words.old ≡ 0) × (vec_len bytes.old ≡ 0) }
     requires words { 4 * ((driver_view driver).made.size1 + (driver_view driver).made.size2) ≤ vec_capacity words.old }
-    requires bytes { ((driver_view driver).made.size1 + (driver_view driver).made.size2) * 4224 ≤ vec_capacity bytes.old }
+    requires bytes { ((driver_view driver).made.size1 + (driver_view driver).made.size2) * MAX_SLOT_SIZE ≤ vec_capacity bytes.old }
     ensures stands { result ≡ true → StandsIn false (driver_view driver) (device_view device) words.new.items bytes.new.items }
     ensures none { result ≡ false → (vec_len words.new ≡ 0) × (vec_len bytes.new ≡ 0) }
 {

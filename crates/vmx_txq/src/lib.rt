@@ -19,4 +19,4 @@ mod words;
 pub use ends::{TxDeviceEnd, TxDriverEnd, TxFacts, TxQueueNote};
 pub use life::{make, meet};
 pub use rows::InRows;
-pub use shown::{word, write_down};
+pub use shown::{SLOT_SIZE, word, write_down};

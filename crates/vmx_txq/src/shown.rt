@@ -8,8 +8,13 @@ use crate::ends::{TxDeviceEnd, TxDriverEnd};
 use crate::rows::InRows;
 use crate::steps::{BothEnds, Shows};
 use std::alloc::Global;
-use vmx_closing::WritesDown;
+use vmx_closing::{WritesDown, append};
+use vmx_ends::MAX_PIECE;
+use vmx_layout::DATA_ENTRY_SIZE;
 use vmx_tx_ring::{TxBuffer, TxReader, TxWriter};
+
+/// The bytes of a slot: a buffer of 4,096 bytes, and its data entry of 128.
+pub const SLOT_SIZE: usize = MAX_PIECE as usize + DATA_ENTRY_SIZE as usize;
 
 /// The load of a word, which changes nothing.
 fn load(writer: &mut TxWriter<InRows>, index: usize) -> u64
@@ -38,10 +43,11 @@ struct WithEntry;
 
 impl WritesDown<TxBuffer> for WithEntry {
     ghost use Rattle.vmx_txq.specs.Standing.{bytes_of};
+    ghost use Rattle.vmx_txq.specs.declared.shown.TheConstants.{SLOT_SIZE};
 
     ghost bytes = { bytes_of };
 
-    ghost most = { 4224 };
+    ghost most = { SLOT_SIZE };
 
     fn put(buffer: &TxBuffer, into: &mut Vec<u8>) {
         append(buffer.bytes.as_slice(), into);
@@ -51,18 +57,6 @@ impl WritesDown<TxBuffer> for WithEntry {
     ghost use Rattle.vmx_txq.specs.StandingLaws.{bytes_few};
 
     ghost few = { bytes_few };
-}
-
-/// Puts bytes behind those that are there.
-fn append(bytes: &[u8], into: &mut Vec<u8>)
-    requires room { vec_len into.old + length bytes.now ≤ vec_capacity into.old }
-    ensures items { into.new.items ≡ into.old.items ++ bytes.now }
-    ensures room { vec_capacity into.old ≤ vec_capacity into.new }
-{
-    match into.extend_from_slice(bytes) {
-        Ok(()) => {}
-        Err(_) => unreachable!(),
-    }
 }
 
 /// Lets the two ends of one queue go, and writes down what stands in its table: its words, four for each descriptor, and
@@ -77,7 +71,7 @@ pub fn write_down(
     requires keys { (driver_view driver).key ≡ (device_view device).key }
     requires empty { (vec_len words.old ≡ 0) × (vec_len bytes.old ≡ 0) }
     requires words { 4 * (driver_view driver).made.size ≤ vec_capacity words.old }
-    requires bytes { (driver_view driver).made.size * 4224 ≤ vec_capacity bytes.old }
+    requires bytes { (driver_view driver).made.size * SLOT_SIZE ≤ vec_capacity bytes.old }
     ensures stands { result ≡ true → StandsIn (driver_view driver) (device_view device) words.new.items bytes.new.items }
     ensures none { result ≡ false → (vec_len words.new ≡ 0) × (vec_len bytes.new ≡ 0) }
 {
