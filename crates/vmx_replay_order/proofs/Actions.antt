@@ -8,14 +8,17 @@ use Rattle.vmx_model.specs.declared.guest.GuestPlan.{GuestPlan}
 use Rattle.vmx_model.specs.declared.deeds.Action.{Action}
 use Rattle.vmx_model.specs.Serial.{World, Seat, acted, done}
 use Rattle.vmx_model.specs.Turns.{at_guest, IsReady}
+use Rattle.vmx_model.proofs.Lists.{all_weaker}
 use Rattle.vmx_model.proofs.Ready.{ready_at}
+use Rattle.vmx_plan_bounds.specs.Numbers.{InOrder}
+use Rattle.vmx_plan_bounds.proofs.Scripts.{script_in_order}
 use Rattle.vmx_replay_order.specs.Runs.{RunView, action_in, next_action, is_of, is_next, does, acts}
 use Rattle.vmx_model.specs.declared.limits.TheConstants.{MAX_ACTIONS}
 use Rattle.vmx_replay_order.specs.Short.{AreShort}
 use Rattle.vmx_replay_order.proofs.Short.{short_more, short_does}
 use Rattle.vmx_replay_order.specs.Orders.{acted_by}
 use Rattle.vmx_replay_order.specs.Standing.{AreBefore, AreFrom, IsAt, OthersBegun}
-use Rattle.vmx_replay_order.proofs.Scripts.{acts_left, InOrder, acted_is, acts_next, acts_over, script_in_order, drop_order}
+use Rattle.vmx_replay_order.proofs.Scripts.{acts_left, acted_is, acts_next, acts_over, drop_order}
 use Rattle.vmx_replay_order.proofs.Guests.{at_twice, at_same, at_stays, more_here, more_other}
 
 -- the actions of a number that are left to the guest at a port
@@ -38,13 +41,12 @@ Within n o k = (p : GuestPlan) → o ≡ Some p → IsWithin n p k
 
 -- ------------------------------------------------------------ one script
 
+-- a bound that is higher, and one that is lower
 before_more : (n : ℕ) (acts : List Action) → AreBefore n acts → AreBefore (n + 1) acts
-before_more n [] h = tt
-before_more n (a ∷ acts) h = let lt = h.0 in (omega (arith, lt), before_more n acts h.1)
+before_more n acts h = all_weaker (λ (a : Action). a.at < n) (λ (a : Action). a.at < n + 1) (λ a lt. omega (arith, lt)) acts h
 
 later : (n : ℕ) (acts : List Action) → AreFrom (n + 1) acts → AllByRecursion (λ (a : Action). n < a.at) acts
-later n [] h = tt
-later n (a ∷ acts) h = let le = h.0 in (omega (arith, le), later n acts h.1)
+later n acts h = all_weaker (λ (a : Action). n + 1 ≤ a.at) (λ (a : Action). n < a.at) (λ a le. omega (arith, le)) acts h
 
 first_of : {X : Type 0} (xs : List X) (k : ℕ) → slice_get xs k ≡ slice_get (drop k xs) 0
 first_of [] zero = refl
@@ -54,11 +56,10 @@ first_of (x ∷ xs) (suc k) = first_of xs k
 
 from_more : (n : ℕ) (acts : List Action) → AreFrom n acts → InOrder acts → is_of n (slice_get acts 0) ≡ false → AreFrom (n + 1) acts
 from_more n [] h o e = tt
-from_more n (a ∷ acts) h o e = let le = h.0 in let up : n + 1 ≤ a.at = elim (eqb_tells a.at n) [ inl w ↦ absurd (true≢false (sym w.0 ∙ e)) | inr w ↦ (let ne = w.1 in omega (arith, le, ne)) ] in (up, rest acts o.0 up)
-  where
-    rest : (bs : List Action) → AllByRecursion (λ (b : Action). a.at ≤ b.at) bs → n + 1 ≤ a.at → AreFrom (n + 1) bs
-    rest [] h up = tt
-    rest (b ∷ bs) h up = let le = h.0 in (omega (arith, le, up), rest bs h.1 up)
+from_more n (a ∷ acts) h o e =
+    let le = h.0 in
+    let up : n + 1 ≤ a.at = elim (eqb_tells a.at n) [ inl w ↦ absurd (true≢false (sym w.0 ∙ e)) | inr w ↦ (let ne = w.1 in omega (arith, le, ne)) ] in
+    (up, all_weaker (λ (b : Action). a.at ≤ b.at) (λ (b : Action). n + 1 ≤ b.at) (λ b high. omega (arith, high, up)) acts o.0)
 
 -- where the next action is not of this number, all that are left are later
 next_later : (n k : ℕ) (p : GuestPlan) → AreFrom n (drop k p.script) → is_of n (slice_get p.script k) ≡ false → AreFrom (n + 1) (drop k p.script)

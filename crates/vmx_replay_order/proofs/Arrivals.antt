@@ -59,10 +59,3 @@ comes_ready from w h = all w.wires h
     all : (ws : List Wire) → AllByRecursion IsEmptied ws → AllByRecursion (λ (l : Wire). l.from ≢ from → IsEmptied l) ws
     all [] h = tt
     all (l ∷ ws) h = ((λ away. h.0), all ws h.1)
-
--- ------------------------------------------------------------ a fold, one element further
-
-pub fold_more : {Y : Type 0} (f : Y → ℕ → Y) (y : Y) (xs : List ℕ) (i : ℕ) → i < length xs → f (fold f y (take i xs)) (get_or xs i 0) ≡ fold f y (take (i + 1) xs)
-fold_more f y [] i lt = absurd (omega arith)
-fold_more f y (z ∷ zs) zero lt = refl
-fold_more f y (z ∷ zs) (suc i) lt = let one : suc (i + 1) ≡ suc i + 1 = omega arith in fold_more f (f y z) zs i (omega arith) ∙ ap (λ (n : ℕ). fold f y (take n (z ∷ zs))) one

@@ -1,5 +1,5 @@
 -- How far the guests stand from their first number to their last, and the end of the run.
-use Rattle.std.proofs.Common.{◌≡◌, ◌≢◌, ℕ, zero, suc, ◌+◌, ◌<◌, ◌≤◌, max, List, [], ◌∷◌, length, map, drop, refl, ap, sym, ◌∙◌, arith, subst, Some, inl, inr}
+use Rattle.std.proofs.Common.{◌≡◌, ◌≢◌, ℕ, zero, suc, ◌+◌, ◌<◌, ◌≤◌, max, List, [], ◌∷◌, length, length-drop, map, drop, refl, ap, sym, ◌∙◌, arith, subst, Some, inl, inr}
 use Rattle.std.specs.List.{slice_get}
 use Rattle.std.proofs.lemmas.Bool.Decides.{eqb_tells}
 use Rattle.vmx_model.specs.declared.plan.Plan.{Plan}
@@ -8,6 +8,7 @@ use Rattle.vmx_model.specs.declared.deeds.Action.{Action}
 use Rattle.vmx_model.specs.Serial.{World, Seat, closed, last_at, last_number, rounds, start, serial_run}
 use Rattle.vmx_model.specs.Turns.{IsReady}
 use Rattle.vmx_model.proofs.Ready.{ready_at, closed_to, closed_all}
+use Rattle.vmx_plan_bounds.proofs.Lasts.{last_behind}
 use Rattle.vmx_replay_order.specs.Runs.{RunView, changes}
 use Rattle.vmx_replay_order.specs.Orders.{closes_all}
 use Rattle.vmx_replay_order.specs.Standing.{AreFrom, IsAt, Stands, StandFrom, StandBelow, IsOver, OthersStand}
@@ -50,55 +51,20 @@ last_drop (suc k) [] = omega arith
 last_drop (suc k) (a ∷ rest) = let le = last_drop k rest in omega (arith, le)
 
 none_left : {X : Type 0} (k : ℕ) (xs : List X) → length (drop k xs) ≡ 0 → length xs ≤ k
-none_left zero xs e = omega (arith, e)
-none_left (suc k) [] e = omega arith
-none_left (suc k) (x ∷ xs) e = let le = none_left k xs e in omega (arith, le)
+none_left k xs e = let n = length-drop k xs in omega (arith, e, n)
 
-most_of : (a b c : ℕ) → (a ≤ max (max a b) c) × (b ≤ max (max a b) c) × (c ≤ max (max a b) c)
-most_of a b c = (omega arith, omega arith, omega arith)
-
-last_cons : (q : GuestPlan) (gs : List GuestPlan) → (length q.capture.records ≤ last_number (q ∷ gs)) × (last_at q.script ≤ last_number (q ∷ gs)) × (last_number gs ≤ last_number (q ∷ gs))
-last_cons q gs = most_of (length q.capture.records) (last_at q.script) (last_number gs)
-
-rises_to : (a b c : ℕ) → a ≤ b → b ≤ c → a ≤ c
-rises_to a b c h k = omega (arith, h, k)
-
-same_below : (a b c : ℕ) → a ≡ b → a ≤ c → b ≤ c
-same_below a b c h k = omega (arith, h, k)
-
-same_item : (q p : GuestPlan) → Some q ≡ Some p → q ≡ p
-same_item q p is = cc is
-
-none_there : (g : ℕ) (p : GuestPlan) → slice_get [] g ≡ Some p → ⊥
-none_there g p is = absurd (cc is)
-
--- what the last number of a plan is behind
-abbrev IsBehind : List GuestPlan → GuestPlan → Type 0
-IsBehind gs p = (length p.capture.records ≤ last_number gs) × (last_at p.script ≤ last_number gs)
-
-last_here : (q p : GuestPlan) (gs : List GuestPlan) → q ≡ p → IsBehind (q ∷ gs) p
-last_here q p gs e = (
-  same_below (length q.capture.records) (length p.capture.records) (last_number (q ∷ gs)) (ap (λ (x : GuestPlan). length x.capture.records) e) (last_cons q gs).0,
-  same_below (last_at q.script) (last_at p.script) (last_number (q ∷ gs)) (ap (λ (x : GuestPlan). last_at x.script) e) (last_cons q gs).1,
-)
-
-last_further : (q p : GuestPlan) (gs : List GuestPlan) → IsBehind gs p → IsBehind (q ∷ gs) p
-last_further q p gs h = (
-  rises_to (length p.capture.records) (last_number gs) (last_number (q ∷ gs)) h.0 (last_cons q gs).2,
-  rises_to (last_at p.script) (last_number gs) (last_number (q ∷ gs)) h.1 (last_cons q gs).2,
-)
-
-last_of : (gs : List GuestPlan) (g : ℕ) (p : GuestPlan) → slice_get gs g ≡ Some p → IsBehind gs p
-last_of [] g p is = absurd (none_there g p is)
-last_of (q ∷ gs) zero p is = last_here q p gs (same_item q p is)
-last_of (q ∷ gs) (suc g) p is = last_further q p gs (last_of gs g p is)
+-- the parts of what is the greater of two
+parts_below : (a b c : ℕ) → max a b ≤ c → (a ≤ c) × (b ≤ c)
+parts_below a b c h = (omega (arith, h), omega (arith, h))
 
 -- behind the last number nothing is left of any guest
 pub over_last : (n port : ℕ) (r : RunView) → n ≡ last_number r.plan.guests → Stands n port r → IsOver port r
-over_last n port r e s = λ p is. let l = last_of r.plan.guests port p is in let records = l.0 in let actions = l.1 in let at = s.passed in let k = r.reached port in record {
-  script = none_left k p.script (last_past n (drop k p.script) (let le = last_drop k p.script in omega (arith, e, le, actions)) (s.begun p is).ahead);
-  capture = omega (arith, e, at, records);
-}
+over_last n port r e s = λ p is.
+    let parts = parts_below (length p.capture.records) (last_at p.script) (last_number r.plan.guests) (last_behind r.plan.guests port p is) in
+    let records = parts.0 in let actions = parts.1 in let at = s.passed in let k = r.reached port in record {
+      script = none_left k p.script (last_past n (drop k p.script) (let le = last_drop k p.script in omega (arith, e, le, actions)) (s.begun p is).ahead);
+      capture = omega (arith, e, at, records);
+    }
 
 -- all guests are closed, one by one
 pub closed_next : (port : ℕ) (r s t : RunView) → s ≡ record r { world = record r.world { seats = closed_to port r.world.seats } } → t ≡ changes port closed s → t ≡ record r { world = record r.world { seats = closed_to (port + 1) r.world.seats } }

@@ -1,7 +1,7 @@
 -- A frame that is put out on the links to its targets, and then taken by them one by one, is sent as the serial run sends it.
 use Rattle.std.proofs.Common.{◌≡◌, ◌≢◌, ℕ, ◌<◌, Bool, List, [], ◌∷◌, length, refl, ap, sym, ◌∙◌, arith, All, Option, Some, None}
 use Rattle.std.specs.List.{fold, slice_get, AllByRecursion}
-use Rattle.std.proofs.lemmas.List.{length-map}
+use Rattle.std.proofs.lemmas.List.Elements.{All-nil}
 use Rattle.vmx_switch.specs.Laws.{targets_below, targets_other}
 use Rattle.vmx_ends.specs.declared.frames.Sent.{Sent}
 use Rattle.vmx_model.specs.declared.plan.Plan.{Plan}
@@ -18,21 +18,14 @@ use Rattle.vmx_model.specs.Turns.{pushes, put_out, next_on, at_guest, AreEmptied
 use Rattle.vmx_model.proofs.Lists.{by_recursion}
 use Rattle.vmx_model.proofs.Fates.{targets_rise}
 use Rattle.vmx_model.proofs.Turns.{one_copy, all_later, reaches_empties}
-use Rattle.vmx_model.proofs.Looks.{next_other, next_here, has_kept}
-use Rattle.vmx_model.proofs.Ready.{ready_at}
+use Rattle.vmx_model.proofs.Looks.{next_here, next_outs, all_has_kept}
+use Rattle.vmx_model.proofs.Ready.{ready_at, has_links}
+use Rattle.vmx_plan_bounds.proofs.Few.{ports_of_targets}
 use Rattle.vmx_replay_order.specs.Runs.{RunView, one_more, put_to, put_by, put_in, targets_of, targets_by, targets_in, captured_in, puts, goes_to, ComesFrom}
 use Rattle.vmx_replay_order.specs.Orders.{arrives, arrives_by, acted_by, sent_in, sends_at}
 use Rattle.vmx_replay_order.proofs.Arrivals.{others_emptied, comes_ready}
 
 -- ------------------------------------------------------------ the copies of a frame
-
-all_has_kept : (from : ℕ) (test : Wire → Bool) (p : Carried) (ws : List Wire) (tos : List ℕ) → AllByRecursion (HasWire from ws) tos → AllByRecursion (HasWire from (where_it test (carried p) ws)) tos
-all_has_kept from test p ws [] h = tt
-all_has_kept from test p ws (a ∷ tos) h = (has_kept from a test p ws h.0, all_has_kept from test p ws tos h.1)
-
-next_outs : (t : Tag) (f : List ℕ) (a : ℕ) (tos : List ℕ) (w : World) → AllByRecursion (λ (b : ℕ). b ≡ a → ⊥) tos → next_on (fold (put_out t f) w tos).wires t.guest a ≡ next_on w.wires t.guest a
-next_outs t f a [] w apart = refl
-next_outs t f a (b ∷ tos) w apart = next_outs t f a tos (put_out t f w b) apart.1 ∙ next_other t.guest a b (record { tag = t; frame = f }) apart.0 w.wires
 
 -- an arrival in the world
 abbrev in_world : Plan → ℕ → World → ℕ → World
@@ -65,10 +58,6 @@ turned : (g : ℕ) (tos : List ℕ) → AllByRecursion (λ (to : ℕ). to ≢ g)
 turned g [] h = tt
 turned g (to ∷ tos) h = (λ e. h.0 (sym e), turned g tos h.1)
 
-has_links : (plan : Plan) (g : ℕ) (w : World) → IsReady plan w → g < length plan.guests → (tos : List ℕ) → AllByRecursion (λ (to : ℕ). to < length (macs_of plan.guests)) tos → AllByRecursion (λ (to : ℕ). to ≢ g) tos → AllByRecursion (HasWire g w.wires) tos
-has_links plan g w r lt [] below away = tt
-has_links plan g w r lt (to ∷ tos) below away = let l = length-map plan.guests (λ (p : GuestPlan). p.mac) in let b = below.0 in (r.links g to lt (omega (arith, l, b)) away.0, has_links plan g w r lt tos below.1 away.1)
-
 arrivals_reach : (plan : Plan) (t : Tag) (f : List ℕ) (w : World) → IsReady plan w → t.guest < length plan.guests
     → fold (in_world plan t.guest) (fold (put_out t f) w (targets (wiring plan.guests) t.guest f)) (targets (wiring plan.guests) t.guest f) ≡ fold (reaches plan t f) w (targets (wiring plan.guests) t.guest f)
 arrivals_reach plan t f w r lt =
@@ -77,26 +66,22 @@ arrivals_reach plan t f w r lt =
     spread_by_arrivals plan t f tos w r.emptied (has_links plan t.guest w r lt tos (by_recursion (λ (to : ℕ). to < length (macs_of plan.guests)) tos (targets_below (wiring plan.guests) t.guest f)) other)
     (turned t.guest tos other) (apart_of tos (targets_rise (wiring plan.guests) t.guest f))
 
-none_at_all : (P : ℕ → Type 0) → All P []
-none_at_all P k d lt = absurd (omega (arith, lt))
-
 by_verdict : (plan : Plan) (port : ℕ) (posted : Sent) (s : Sending) → All (λ to. (to < length plan.guests) × (to ≢ port)) (targets_by plan port posted s)
-by_verdict plan port posted (sending.Sent a q k) = λ i d lt. let l = length-map plan.guests (λ (p : GuestPlan). p.mac) in let low = targets_below (wiring plan.guests) port (wire_form posted) i d lt in
-    (omega (arith, low, l), targets_other (wiring plan.guests) port (wire_form posted) i d lt)
-by_verdict plan port posted sending.Down = none_at_all _
-by_verdict plan port posted sending.Short = none_at_all _
-by_verdict plan port posted sending.TooLong = none_at_all _
+by_verdict plan port posted (sending.Sent a q k) = ports_of_targets plan port (wire_form posted)
+by_verdict plan port posted sending.Down = All-nil _
+by_verdict plan port posted sending.Short = All-nil _
+by_verdict plan port posted sending.TooLong = All-nil _
 
 -- each is another guest's port
 pub goes_all : (plan : Plan) (port n : ℕ) → All (λ to. (to < length plan.guests) × (to ≢ port)) (goes_to port n plan)
 goes_all plan port n = by_guest (slice_get plan.guests port)
   where
     by_frame : (p : GuestPlan) (o : Option Captured) → All (λ to. (to < length plan.guests) × (to ≢ port)) (targets_in plan port (Some p) o)
-    by_frame p None = none_at_all _
+    by_frame p None = All-nil _
     by_frame p (Some c) = by_verdict plan port c.posted (verdict_on p c)
 
     by_guest : (o : Option GuestPlan) → All (λ to. (to < length plan.guests) × (to ≢ port)) (targets_in plan port o (captured_in o n))
-    by_guest None = none_at_all _
+    by_guest None = All-nil _
     by_guest (Some p) = by_frame p (slice_get (captured p) n)
 
 -- ------------------------------------------------------------ what waits when a frame was put out

@@ -28,23 +28,6 @@ get_at n f [] = refl
 get_at zero f (x ∷ xs) = refl
 get_at (suc n) f (x ∷ xs) = get_at n f xs
 
--- ------------------------------------------------------------ items by their numbers
-
-pub there : {X : Type 0} (xs : List X) (i : ℕ) (x : X) → i < length xs → x ≡ get_or xs i x → slice_get xs i ≡ Some x
-there [] i x lt e = absurd (omega arith)
-there (y ∷ ys) zero x lt e = ap Some (sym e)
-there (y ∷ ys) (suc i) x lt e = there ys i x (omega arith) e
-
-pub some_there : {X : Type 0} (xs : List X) (i : ℕ) → i < length xs → (x : X) × (slice_get xs i ≡ Some x)
-some_there [] i lt = absurd (omega arith)
-some_there (y ∷ ys) zero lt = (y, refl)
-some_there (y ∷ ys) (suc i) lt = some_there ys i (omega arith)
-
-pub past : {X : Type 0} (xs : List X) (i : ℕ) → length xs ≤ i → slice_get xs i ≡ None
-past [] i le = refl
-past (y ∷ ys) zero le = absurd (omega arith)
-past (y ∷ ys) (suc i) le = past ys i (omega arith)
-
 -- ------------------------------------------------------------ counts
 
 pub more_here : (port : ℕ) (counts : ℕ → ℕ) → one_more port counts port ≡ counts port + 1

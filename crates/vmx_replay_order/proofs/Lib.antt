@@ -4,8 +4,6 @@ pub mod Arrivals
 pub mod Scripts
 pub mod Actions
 pub mod Frames
-pub mod Lasts
 pub mod Closing
 pub mod Turning
-pub mod Few
 pub mod Short

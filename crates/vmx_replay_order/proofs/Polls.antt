@@ -2,6 +2,7 @@
 use Rattle.std.proofs.Common.{◌≡◌, ℕ, zero, suc, ◌+◌, ◌-◌, Bool, true, false, List, [], ◌∷◌, length, refl, ap, sym, ◌∙◌, arith, Option, Some, None, if◌then◌else◌}
 use Rattle.std.specs.Option.{option_map}
 use Rattle.std.specs.List.{slice_get}
+use Rattle.std.proofs.lemmas.List.{nil_from_length}
 use Rattle.vmx_model.specs.Serial.{Seat, at_number, poll, pending, drained, emptied}
 use Rattle.vmx_model.specs.PollSteps.{drained_poll, emptied_stays, poll_nothing, poll_less}
 use Rattle.vmx_model.specs.Turns.{comes_up}
@@ -61,17 +62,13 @@ live_less s = step s.active
 pub polled_on : (port : ℕ) (r s : RunView) → s ≡ changes port live_poll r → changes port drained s ≡ changes port drained r
 polled_on port r s e = ap (changes port drained) e ∙ ap (with_seats r) (at_twice port drained live_poll r.world.seats ∙ at_same port _ _ drained_live r.world.seats)
 
-no_length : {X : Type 0} (xs : List X) → length xs ≡ 0 → xs ≡ []
-no_length [] e = refl
-no_length (x ∷ xs) e = absurd (omega arith)
-
 -- one that hands up nothing ends the loop
 pub polled_off : (port : ℕ) (r s : RunView) → s ≡ changes port live_poll r → up_at port r ≡ 0 → s ≡ changes port drained r
 polled_off port r s e none =
     e ∙ ap (with_seats r) (at_stays port live_poll r.world.seats (λ x there_. live_stays x (up x there_)) ∙ sym (at_stays port drained r.world.seats (λ x there_. drained_none x (up x there_))))
   where
     up : (x : Seat) → slice_get r.world.seats port ≡ Some x → live_up x ≡ []
-    up x there_ = no_length (live_up x) (sym (ap count_up there_) ∙ none)
+    up x there_ = nil_from_length (live_up x) (sym (ap count_up there_) ∙ none)
 
 -- each poll that hands something up leaves less
 pub polled_less : (port : ℕ) (r s : RunView) → s ≡ changes port live_poll r → left_at port s + up_at port r ≡ left_at port r

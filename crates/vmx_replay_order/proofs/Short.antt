@@ -19,20 +19,18 @@ use Rattle.vmx_model.specs.Totals.{wiring}
 use Rattle.vmx_model.specs.Wire.{wire_form, targets}
 use Rattle.vmx_model.specs.Serial.{Seat, World, Carried, at_number, poll, polls, pending, emptied, drained, quieted, quiet_setting, active_setting, activated, set_command, done, acted, arrived, polled_if, noted, closed, transmitted, reaches, spread, sent_by, sends, turn, turn_of, turns, rounds, start, seats_from, pushed_on, mac_of}
 use Rattle.vmx_model.specs.Turns.{at_guest, put_out, next_on, pulled_on}
+use Rattle.vmx_model.proofs.Lists.{all_weaker}
+use Rattle.vmx_model.proofs.Entries.{emptied_entries, drained_entries}
 use Rattle.vmx_model.proofs.Ready.{closed_to}
 use Rattle.vmx_replay_order.specs.Runs.{RunView, does, acts, put_to, put_by, put_in, puts, captured_in, targets_of}
 use Rattle.vmx_replay_order.specs.Orders.{acted_by, arrives, arrives_by}
-use Rattle.vmx_replay_order.specs.Short.{AreShort}
-use Rattle.vmx_replay_order.proofs.Few.{guests_few, targets_few}
+use Rattle.vmx_replay_order.specs.Short.{AreShort, ENTRIES_OF_ACTIONS, ENTRIES_OF_FRAME, ENTRIES_OF_TURN, ENTRIES_OF_ROUND}
+use Rattle.vmx_plan_bounds.proofs.Few.{filter_few, guests_few, targets_few}
 
 -- ------------------------------------------------------------ lists of guests
 
 pub short_more : (k m : ℕ) (w : World) → k ≤ m → AreShort k w → AreShort m w
-short_more k m w le h = all w.seats h
-  where
-    all : (ss : List Seat) → AllByRecursion (λ (s : Seat). length s.entries ≤ k) ss → AllByRecursion (λ (s : Seat). length s.entries ≤ m) ss
-    all [] h = tt
-    all (s ∷ ss) h = let here = h.0 in (omega (arith, here, le), all ss h.1)
+short_more k m w le h = all_weaker (λ (s : Seat). length s.entries ≤ k) (λ (s : Seat). length s.entries ≤ m) (λ s few. omega (arith, few, le)) w.seats h
 
 -- a change of one guest
 pub at_short : (k m n : ℕ) (change : Seat → Seat) (w : World) → k ≤ m → ((s : Seat) → length s.entries ≤ k → length (change s).entries ≤ m) → AreShort k w → AreShort m (at_guest n change w)
@@ -47,22 +45,6 @@ at_short k m n change w le step h = all n w.seats h
     all (suc n) (s ∷ ss) h = (let here = h.0 in omega (arith, here, le), all n ss h.1)
 
 -- ------------------------------------------------------------ one guest
-
-polls_entries : (a n : ℕ) (s : Seat) → (polls a n s).entries ≡ s.entries
-polls_entries a zero s = refl
-polls_entries a (suc n) s = polls_entries a n (poll a s)
-
-emptied_entries : (s : Seat) → (emptied s).entries ≡ s.entries
-unfolding emptied
-emptied_entries s = polls_entries (s.begun - 1) (pending s.rx) s
-
-drained_entries : (s : Seat) → (drained s).entries ≡ s.entries
-unfolding drained
-drained_entries s = step s.active
-  where
-    step : (b : Bool) → (if b then emptied s else s).entries ≡ s.entries
-    step true = emptied_entries s
-    step false = refl
 
 one_entry : (es : List Entry) (e : Entry) → length (es ++ e ∷ []) ≡ length es + 1
 one_entry es e = length-append es (e ∷ [])
@@ -94,19 +76,11 @@ done_entries port g (deed.Multicast t) s = let n = set_entries update_mac_filter
 done_entries port g (deed.Vlans t) s = let n = set_entries update_vlan_filters (record s { setup = changed s.setup (deed.Vlans t) }) in omega (arith, n)
 done_entries port g (deed.Rss size t) s = let n = set_entries update_rssidt (record s { setup = changed s.setup (deed.Rss size t) }) in omega (arith, n)
 
-filter_few : {X : Type 0} (test : X → Bool) (xs : List X) → length (filter test xs) ≤ length xs
-filter_few test [] = omega arith
-filter_few test (x ∷ xs) = step (test x) refl (filter_few test xs)
-  where
-    step : (b : Bool) → test x ≡ b → length (filter test xs) ≤ length xs → length (filter test (x ∷ xs)) ≤ suc (length xs)
-    step true e le = rw e (omega (arith, le))
-    step false e le = rw e (omega (arith, le))
-
 all_entries : (port : ℕ) (g : GuestPlan) (acts : List Action) (s : Seat) → length (fold (λ s (a : Action). done port g a.deed s) s acts).entries ≤ length s.entries + 2 * length acts
 all_entries port g [] s = omega arith
 all_entries port g (a ∷ acts) s = let more = all_entries port g acts (done port g a.deed s) in let one = done_entries port g a.deed s in omega (arith, more, one)
 
-acted_entries : (port : ℕ) (g : GuestPlan) (n : ℕ) (s : Seat) → length (acted port g n s).entries ≤ length s.entries + 512
+acted_entries : (port : ℕ) (g : GuestPlan) (n : ℕ) (s : Seat) → length (acted port g n s).entries ≤ length s.entries + ENTRIES_OF_ACTIONS
 acted_entries port g n s = let all = all_entries port g (filter (λ (a : Action). nat_eq a.at n) g.script) s in let few = filter_few (λ (a : Action). nat_eq a.at n) g.script in let most = g.script_length in omega (arith, all, few, most)
 
 polled_entries : (b : Bool) (s : Seat) → length (polled_if b s).entries ≡ length s.entries
@@ -178,9 +152,9 @@ short_closed k (suc n) w h = at_short (k + n) (k + suc n) n closed (record w { s
 
 -- ------------------------------------------------------------ the serial run
 
-pub short_acted : (k port n : ℕ) (o : Option GuestPlan) (w : World) → AreShort k w → AreShort (k + 512) (acted_by port n o w)
-short_acted k port n None w h = short_more k (k + 512) w (omega arith) h
-short_acted k port n (Some p) w h = at_short k (k + 512) port (acted port p n) w (omega arith) (λ s le. let more = acted_entries port p n s in omega (arith, le, more)) h
+pub short_acted : (k port n : ℕ) (o : Option GuestPlan) (w : World) → AreShort k w → AreShort (k + ENTRIES_OF_ACTIONS) (acted_by port n o w)
+short_acted k port n None w h = short_more k (k + ENTRIES_OF_ACTIONS) w (omega arith) h
+short_acted k port n (Some p) w h = at_short k (k + ENTRIES_OF_ACTIONS) port (acted port p n) w (omega arith) (λ s le. let more = acted_entries port p n s in omega (arith, le, more)) h
 
 short_reaches : (k : ℕ) (plan : Plan) (t : Tag) (f : List ℕ) (w : World) (to : ℕ) → AreShort k w → AreShort (k + 2) (reaches plan t f w to)
 short_reaches k plan t f w to h =
@@ -193,40 +167,40 @@ short_all : (k : ℕ) (plan : Plan) (t : Tag) (f : List ℕ) (tos : List ℕ) (w
 short_all k plan t f [] w h = short_more k (k + 2 * 0) w (omega arith) h
 short_all k plan t f (to ∷ tos) w h = let e : k + 2 + 2 * length tos ≡ k + 2 * suc (length tos) = omega arith in subst (λ (n : ℕ). AreShort n (fold (reaches plan t f) (reaches plan t f w to) tos)) e (short_all (k + 2) plan t f tos (reaches plan t f w to) (short_reaches k plan t f w to h))
 
-short_spread : (k : ℕ) (plan : Plan) (t : Tag) (f : List ℕ) (tos : List ℕ) (w : World) → length tos ≤ MAX_PORTS → AreShort k w → AreShort (k + 32) (spread plan t f tos w)
-short_spread k plan t f [] w few h = short_more (k + 1) (k + 32) (at_guest t.guest (noted (entry.Lost t)) w) (omega arith) (short_noted k t.guest (entry.Lost t) w h)
-short_spread k plan t f (to ∷ tos) w few h = short_more (k + 2 * suc (length tos)) (k + 32) (fold (reaches plan t f) w (to ∷ tos)) (omega (arith, few)) (short_all k plan t f (to ∷ tos) w h)
+short_spread : (k : ℕ) (plan : Plan) (t : Tag) (f : List ℕ) (tos : List ℕ) (w : World) → length tos ≤ MAX_PORTS → AreShort k w → AreShort (k + ENTRIES_OF_FRAME) (spread plan t f tos w)
+short_spread k plan t f [] w few h = short_more (k + 1) (k + ENTRIES_OF_FRAME) (at_guest t.guest (noted (entry.Lost t)) w) (omega arith) (short_noted k t.guest (entry.Lost t) w h)
+short_spread k plan t f (to ∷ tos) w few h = short_more (k + 2 * suc (length tos)) (k + ENTRIES_OF_FRAME) (fold (reaches plan t f) w (to ∷ tos)) (omega (arith, few)) (short_all k plan t f (to ∷ tos) w h)
 
-short_sent : (k : ℕ) (plan : Plan) (g : ℕ) (posted : Sent) (s : Sending) (w : World) → AreShort k w → AreShort (k + 32) (sent_by plan g posted s w)
+short_sent : (k : ℕ) (plan : Plan) (g : ℕ) (posted : Sent) (s : Sending) (w : World) → AreShort k w → AreShort (k + ENTRIES_OF_FRAME) (sent_by plan g posted s w)
 short_sent k plan g posted (sending.Sent a q n) w h = short_spread k plan (record { guest = g; activation = a; queue = q; place = n }) (wire_form posted) (targets (wiring plan.guests) g (wire_form posted)) (at_guest g (transmitted a q posted) w) (targets_few plan g (wire_form posted))
     (short_same k g (transmitted a q posted) w (λ s. refl) h)
-short_sent k plan g posted sending.Down w h = short_more k (k + 32) w (omega arith) h
-short_sent k plan g posted sending.Short w h = short_more k (k + 32) w (omega arith) h
-short_sent k plan g posted sending.TooLong w h = short_more k (k + 32) w (omega arith) h
+short_sent k plan g posted sending.Down w h = short_more k (k + ENTRIES_OF_FRAME) w (omega arith) h
+short_sent k plan g posted sending.Short w h = short_more k (k + ENTRIES_OF_FRAME) w (omega arith) h
+short_sent k plan g posted sending.TooLong w h = short_more k (k + ENTRIES_OF_FRAME) w (omega arith) h
 
-short_sends : (k : ℕ) (plan : Plan) (g : ℕ) (p : GuestPlan) (o : Option Captured) (w : World) → AreShort k w → AreShort (k + 32) (sends plan g p o w)
-short_sends k plan g p None w h = short_more k (k + 32) w (omega arith) h
+short_sends : (k : ℕ) (plan : Plan) (g : ℕ) (p : GuestPlan) (o : Option Captured) (w : World) → AreShort k w → AreShort (k + ENTRIES_OF_FRAME) (sends plan g p o w)
+short_sends k plan g p None w h = short_more k (k + ENTRIES_OF_FRAME) w (omega arith) h
 short_sends k plan g p (Some c) w h = short_sent k plan g c.posted (verdict_on p c) w h
 
--- a turn adds at most 544 entries to a journal
-short_turn : (k : ℕ) (plan : Plan) (n g : ℕ) (w : World) → AreShort k w → AreShort (k + 544) (turn plan n g w)
+-- a turn
+short_turn : (k : ℕ) (plan : Plan) (n g : ℕ) (w : World) → AreShort k w → AreShort (k + ENTRIES_OF_TURN) (turn plan n g w)
 short_turn k plan n g w h = by_guest (slice_get plan.guests g)
   where
-    by_guest : (o : Option GuestPlan) → AreShort (k + 544) (turn_of plan n g o w)
-    by_guest None = short_more k (k + 544) w (omega arith) h
-    by_guest (Some p) = short_more (k + 512 + 32) (k + 544) (sends plan g p (slice_get (captured p) n) (at_guest g (acted g p n) w)) (omega arith) (short_sends (k + 512) plan g p (slice_get (captured p) n) (at_guest g (acted g p n) w) (short_acted k g n (Some p) w h))
+    by_guest : (o : Option GuestPlan) → AreShort (k + ENTRIES_OF_TURN) (turn_of plan n g o w)
+    by_guest None = short_more k (k + ENTRIES_OF_TURN) w (omega arith) h
+    by_guest (Some p) = short_more (k + ENTRIES_OF_ACTIONS + ENTRIES_OF_FRAME) (k + ENTRIES_OF_TURN) (sends plan g p (slice_get (captured p) n) (at_guest g (acted g p n) w)) (omega arith) (short_sends (k + ENTRIES_OF_ACTIONS) plan g p (slice_get (captured p) n) (at_guest g (acted g p n) w) (short_acted k g n (Some p) w h))
 
-pub short_turns : (k : ℕ) (plan : Plan) (n g : ℕ) (w : World) → AreShort k w → AreShort (k + 544 * g) (turns plan n g w)
+pub short_turns : (k : ℕ) (plan : Plan) (n g : ℕ) (w : World) → AreShort k w → AreShort (k + ENTRIES_OF_TURN * g) (turns plan n g w)
 unfolding turns
-short_turns k plan n zero w h = short_more k (k + 544 * 0) w (omega arith) h
-short_turns k plan n (suc g) w h = short_more (k + 544 * g + 544) (k + 544 * suc g) (turn plan n g (turns plan n g w)) (omega arith) (short_turn (k + 544 * g) plan n g (turns plan n g w) (short_turns k plan n g w h))
+short_turns k plan n zero w h = short_more k (k + ENTRIES_OF_TURN * 0) w (omega arith) h
+short_turns k plan n (suc g) w h = short_more (k + ENTRIES_OF_TURN * g + ENTRIES_OF_TURN) (k + ENTRIES_OF_TURN * suc g) (turn plan n g (turns plan n g w)) (omega arith) (short_turn (k + ENTRIES_OF_TURN * g) plan n g (turns plan n g w) (short_turns k plan n g w h))
 
 seats_short : (port : ℕ) (gs : List GuestPlan) → AllByRecursion (λ (s : Seat). length s.entries ≤ 1) (seats_from port gs)
 seats_short port [] = tt
 seats_short port (g ∷ gs) = (omega arith, seats_short (port + 1) gs)
 
--- and so a number at most 8,704
-pub short_rounds : (plan : Plan) (n : ℕ) → AreShort (1 + 8704 * n) (rounds plan n (start plan))
+-- all numbers so far: each journal begins with one entry
+pub short_rounds : (plan : Plan) (n : ℕ) → AreShort (1 + ENTRIES_OF_ROUND * n) (rounds plan n (start plan))
 unfolding rounds
-short_rounds plan zero = short_more 1 (1 + 8704 * 0) (start plan) (omega arith) (seats_short 0 plan.guests)
-short_rounds plan (suc n) = let few = guests_few plan in short_more (1 + 8704 * n + 544 * length plan.guests) (1 + 8704 * suc n) (turns plan n (length plan.guests) (rounds plan n (start plan))) (omega (arith, few)) (short_turns (1 + 8704 * n) plan n (length plan.guests) (rounds plan n (start plan)) (short_rounds plan n))
+short_rounds plan zero = short_more 1 (1 + ENTRIES_OF_ROUND * 0) (start plan) (omega arith) (seats_short 0 plan.guests)
+short_rounds plan (suc n) = let few = guests_few plan in short_more (1 + ENTRIES_OF_ROUND * n + ENTRIES_OF_TURN * length plan.guests) (1 + ENTRIES_OF_ROUND * suc n) (turns plan n (length plan.guests) (rounds plan n (start plan))) (omega (arith, few)) (short_turns (1 + ENTRIES_OF_ROUND * n) plan n (length plan.guests) (rounds plan n (start plan)) (short_rounds plan n))

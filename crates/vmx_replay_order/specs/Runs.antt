@@ -16,11 +16,14 @@ use Rattle.vmx_model.specs.Wire.{wire_form, targets}
 use Rattle.vmx_model.specs.Serial.{Seat, World, Wire, Carried, where_it, at_number, is_wire, mac_of, noted, transmitted, poll, done}
 use Rattle.vmx_model.specs.Turns.{at_guest, put_out, pulls, pulled_on, next_on, comes_in, comes_up, IsEmptied}
 
--- a run: its plan, its world, how many actions of each guest were begun, and to which captured number each guest has come
+-- a run
 pub record RunView : Type 0 where
   pub plan : Plan
+  -- all guests by their ports, with journals (entries), queues (frames by position) and frames handed up; and what each link carried (packets)
   pub world : World
+  -- by a guest's port, how many actions of its script were begun
   pub reached : ℕ → ℕ
+  -- by a guest's port, the captured number to which it has come: so many of its frames were gone through, from the first one on
   pub passed : ℕ → ℕ
 
 -- a guest changes

@@ -3,7 +3,6 @@
 #![tactic(auto)]
 
 mod actors;
-mod last;
 mod order;
 
 pub use actors::Actors;

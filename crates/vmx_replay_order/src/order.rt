@@ -1,18 +1,18 @@
 //! The serial order: number by number, and in port order each guest's actions of that number, then its frame to its targets one by
 //! one; at the end each driver is closed.
-ghost use Rattle.std.specs.Prelude.{◌≡◌, ◌≢◌, ℕ, ◌<◌, ◌≤◌, ◌+◌, ◌^◌, All, length, fold, Some, slice_get, OnOk};
+ghost use Rattle.std.specs.Prelude.{◌≡◌, ◌≢◌, ℕ, ◌<◌, ◌≤◌, ◌+◌, All, length, fold, Some, slice_get, OnOk};
 ghost use Rattle.vmx_model.specs.Serial.{drained, turn as turn_of, turns, start, serial_run};
 ghost use Rattle.vmx_model.specs.Turns.{IsReady};
 ghost use Rattle.vmx_replay_order.specs.Runs.{changes, ComesFrom};
 ghost use Rattle.vmx_replay_order.specs.Orders.{polled_due, arrives, acted_by, sends_at, closes_all};
 ghost use Rattle.vmx_switch.specs.declared.answer.TheConstants.{MAX_PORTS};
-ghost use Rattle.vmx_replay_order.specs.Short.{AreShort, MOST_ENTRIES};
+ghost use Rattle.vmx_replay_order.specs.Short.{AreShort, ENTRIES_AT_ROUND, ENTRIES_AT_TURN, ENTRIES_AT_FRAME, ENTRIES_AT_ARRIVALS, ENTRIES_AT_CLOSE, MOST_ENTRIES};
 ghost use Rattle.vmx_replay_order.specs.Standing.{HasBegun, Stands, StandAll, OthersStand, OthersBegun, AreOver};
 
 use crate::actors::Actors;
-use crate::last::last_number;
 use std::alloc::AllocError;
 use vmx_model::Plan;
+use vmx_plan_bounds::last_number;
 
 /// The serial order of a plan, from guests that are activated on, to guests that are closed: it leaves the world of the model's serial
 /// run. `AllocError` comes from the actors alone.
@@ -23,7 +23,7 @@ pub fn serial<A: Actors>(plan: &Plan, actors: &mut A) -> Result<(), AllocError>
     ensures run { OnOk result ((A.run actors.new).world ≡ serial_run plan.now) }
 {
     let guests = plan.guests.len() as u32;
-    let last = last_number(plan.guests.as_slice());
+    let last = last_number(plan);
     for number in 0..last {
         round(actors, guests, number)?;
     }
@@ -35,7 +35,7 @@ fn round<A: Actors>(actors: &mut A, guests: u32, number: u32) -> Result<(), Allo
     requires guests { guests ≡ length (A.run actors.old).plan.guests }
     requires stand { StandAll number (A.run actors.old) }
     requires ready { IsReady (A.run actors.old).plan (A.run actors.old).world }
-    requires short { AreShort (2 ^ 46) (A.run actors.old).world }
+    requires short { AreShort ENTRIES_AT_ROUND (A.run actors.old).world }
     ensures turns { OnOk result ((A.run actors.new).world ≡ turns (A.run actors.old).plan number guests (A.run actors.old).world) }
     ensures plan { OnOk result ((A.run actors.new).plan ≡ (A.run actors.old).plan) }
     ensures stand { OnOk result (StandAll (number + 1) (A.run actors.new)) }
@@ -51,7 +51,7 @@ fn turn<A: Actors>(actors: &mut A, port: u32, number: u32) -> Result<(), AllocEr
     requires port { port < length (A.run actors.old).plan.guests }
     requires stands { Stands number port (A.run actors.old) }
     requires ready { IsReady (A.run actors.old).plan (A.run actors.old).world }
-    requires short { AreShort (2 ^ 47) (A.run actors.old).world }
+    requires short { AreShort ENTRIES_AT_TURN (A.run actors.old).world }
     ensures turn { OnOk result ((A.run actors.new).world ≡ turn_of (A.run actors.old).plan number port (A.run actors.old).world) }
     ensures stands { OnOk result (Stands (number + 1) port (A.run actors.new)) }
     ensures others { OnOk result (OthersStand port (A.run actors.old) (A.run actors.new)) }
@@ -65,7 +65,7 @@ fn act_all<A: Actors>(actors: &mut A, port: u32, number: u32) -> Result<(), Allo
     requires port { port < length (A.run actors.old).plan.guests }
     requires stands { Stands number port (A.run actors.old) }
     requires ready { IsReady (A.run actors.old).plan (A.run actors.old).world }
-    requires short { AreShort (2 ^ 47) (A.run actors.old).world }
+    requires short { AreShort ENTRIES_AT_TURN (A.run actors.old).world }
     ensures acted { OnOk result ((A.run actors.new).world ≡ acted_by port number (slice_get (A.run actors.old).plan.guests port) (A.run actors.old).world) }
     ensures begun { OnOk result (HasBegun port (number + 1) (A.run actors.new)) }
     ensures others { OnOk result (OthersBegun port (A.run actors.old) (A.run actors.new)) }
@@ -82,7 +82,7 @@ fn send<A: Actors>(actors: &mut A, port: u32, number: u32) -> Result<(), AllocEr
     requires passed { (A.run actors.old).passed port ≡ number }
     requires begun { HasBegun port (number + 1) (A.run actors.old) }
     requires ready { IsReady (A.run actors.old).plan (A.run actors.old).world }
-    requires short { AreShort (2 ^ 48) (A.run actors.old).world }
+    requires short { AreShort ENTRIES_AT_FRAME (A.run actors.old).world }
     ensures sends { OnOk result (A.run actors.new ≡ sends_at port number (A.run actors.old)) }
 {
     let targets = actors.put(port, number)?;
@@ -95,7 +95,7 @@ fn arrive_each<A: Actors>(actors: &mut A, from: u32, targets: &[u32]) -> Result<
     requires targets { All (λ to. (to < length (A.run actors.old).plan.guests) × (to ≢ from)) targets.now }
     requires alone { ComesFrom from (A.run actors.old).world }
     requires few { length targets.now ≤ MAX_PORTS }
-    requires short { AreShort (2 ^ 49) (A.run actors.old).world }
+    requires short { AreShort ENTRIES_AT_ARRIVALS (A.run actors.old).world }
     ensures arrive { OnOk result (A.run actors.new ≡ fold (arrives from) (A.run actors.old) targets.now) }
 {
     for to in targets {
@@ -146,7 +146,7 @@ fn close_all<A: Actors>(actors: &mut A, guests: u32) -> Result<(), AllocError>
     requires guests { guests ≡ length (A.run actors.old).plan.guests }
     requires over { AreOver (A.run actors.old) }
     requires ready { IsReady (A.run actors.old).plan (A.run actors.old).world }
-    requires short { AreShort (2 ^ 49) (A.run actors.old).world }
+    requires short { AreShort ENTRIES_AT_CLOSE (A.run actors.old).world }
     ensures closed { OnOk result (A.run actors.new ≡ closes_all (A.run actors.old)) }
 {
     for port in 0..guests {

@@ -51,24 +51,3 @@ seats_queues port (g ∷ gs) = ap (λ (qs : List ℕ). g.setup.rx_queues ∷ qs)
 -- the numbers at the start
 pub way_start : (plan : Plan) → IsOnTheWay plan 1 (start plan)
 way_start plan = record { queues = seats_queues 0 plan.guests; small = seats_small 0 plan.guests }
-
--- ------------------------------------------------------------ the last number
-
-pub records_at : (gs : List GuestPlan) (i : ℕ) (g : GuestPlan) → i < length gs → g ≡ get_or gs i g → length g.capture.records ≤ records_of gs
-records_at [] i g lt is = absurd (omega arith)
-records_at (h ∷ hs) zero g lt is = let e = ap (λ (x : GuestPlan). length x.capture.records) is in omega arith
-records_at (h ∷ hs) (suc i) g lt is = let r = records_at hs i g (omega arith) is in omega arith
-
-early : (queues : ℕ) (rss quiet : Bool) (at : ℕ) (script : List Action) → fits_from queues rss quiet at script ≡ true → AreEarly script
-early queues rss quiet at [] h = All-nil (λ (a : Action). a.at ≤ 262144)
-early queues rss quiet at (a ∷ rest) h =
-    let head : is_within at 262144 a.at ≡ true = (and_parts (is_within at 262144 a.at) _ h).0 in
-    let tail : fits_from queues rss (quiet_after quiet a.deed) a.at rest ≡ true = (and_parts (is_in_turn quiet a.deed) _ (and_parts (fits_deed queues rss a.deed) _ (and_parts (is_within at 262144 a.at) _ h).1).1).1 in
-    All-cons (λ (a : Action). a.at ≤ 262144) a rest (leb-true _ _ (and_parts _ _ head).1) (early queues rss (quiet_after quiet a.deed) a.at rest tail)
-
--- a plan's actions are of captured numbers
-pub script_early : (g : GuestPlan) → AreEarly g.script
-script_early g = early g.setup.rx_queues _ false 0 g.script g.script_fits
-
-pub last_next : (gs : List GuestPlan) (i : ℕ) (g : GuestPlan) → i < length gs → g ≡ get_or gs i g → last_number (drop i gs) ≡ max (max (length g.capture.records) (last_at g.script)) (last_number (drop (i + 1) gs))
-last_next gs i g lt is = at_drop_more last_number gs i g lt ∙ ap (λ (x : GuestPlan). max (max (length x.capture.records) (last_at x.script)) (last_number (drop (i + 1) gs))) (sym is)

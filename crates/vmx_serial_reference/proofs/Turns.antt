@@ -9,24 +9,13 @@ use Rattle.vmx_model.specs.declared.plan.Plan.{Plan}
 use Rattle.vmx_model.specs.declared.journal.Entry.TheVariants as entry
 use Rattle.vmx_model.specs.declared.journal.Way.TheVariants as way
 use Rattle.vmx_model.specs.declared.sending.Sending.TheVariants as sending
+use Rattle.vmx_model.specs.PlanSteps.{there}
 use Rattle.vmx_model.specs.Wire.{posted_form, wire_form, wire_length}
 use Rattle.vmx_model.specs.Serial.{Seat, World, Wire, at_number, where_it, is_wire, carried, noted, arrived, pushed_on, mac_of, mac_or_none, reaches}
 use Rattle.vmx_model.specs.Turns.{IsVerdict}
 use Rattle.vmx_model.proofs.Sends.{sent_frame}
 use Rattle.vmx_serial_reference.specs.Worlds.{IsOnTheWay}
 use Rattle.vmx_serial_seats.proofs.SmallLaws.{queues_in}
-
--- ------------------------------------------------------------ items by their numbers
-
-pub there : {X : Type 0} (xs : List X) (i : ℕ) (x : X) → i < length xs → x ≡ get_or xs i x → slice_get xs i ≡ Some x
-there [] i x lt e = absurd (omega arith)
-there (y ∷ ys) zero x lt e = ap Some (sym e)
-there (y ∷ ys) (suc i) x lt e = there ys i x (omega arith) e
-
-pub below : {X : Type 0} (xs : List X) (i : ℕ) (x : X) → slice_get xs i ≡ Some x → i < length xs
-below [] i x e = absurd (cc e)
-below (y ∷ ys) zero x e = omega arith
-below (y ∷ ys) (suc i) x e = let l = below ys i x e in omega arith
 
 -- ------------------------------------------------------------ one copy
 

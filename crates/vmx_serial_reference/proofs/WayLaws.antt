@@ -20,6 +20,7 @@ use Rattle.vmx_model.specs.Totals.{wiring, macs_of, sniffers_of}
 use Rattle.vmx_model.specs.Wire.{wire_form, targets}
 use Rattle.vmx_model.specs.Plan.{Captured, captured, verdict_on}
 use Rattle.vmx_model.specs.Serial.{Seat, World, at_number, noted, arrived, pushed_on, mac_of, reaches, spread, transmitted, sent_by, sends, acted, turn_of, turns, rounds}
+use Rattle.vmx_plan_bounds.proofs.Few.{filter_few, guests_few, targets_few}
 use Rattle.vmx_serial_seats.specs.Small.{IsSmall}
 use Rattle.vmx_serial_reference.specs.Worlds.{IsOnTheWay}
 use Rattle.vmx_serial_seats.proofs.SmallLaws.{queues_in, small_more, small_deeds, small_noted, small_transmitted, small_arrived, kept_deeds, kept_arrived}
@@ -35,29 +36,6 @@ at_queues : (n : ℕ) (change : Seat → Seat) → ((s : Seat) → queues_in (ch
 at_queues n change same [] = refl
 at_queues zero change same (s ∷ ss) = ap (λ (q : ℕ). q ∷ map queues_in ss) (same s)
 at_queues (suc n) change same (s ∷ ss) = ap (λ (qs : List ℕ). queues_in s ∷ qs) (at_queues n change same ss)
-
--- ------------------------------------------------------------ the plan's bounds
-
-wiring_few : (macs : List (List ℕ)) (a b c d : Bool) → (a && b && nat_le (length macs) 16 && c && d) ≡ true → length macs ≤ 16
-wiring_few macs a b c d e = leb-true _ _ (and_parts _ _ (and_parts _ _ (and_parts _ _ e).0).0).1
-
-pub guests_few : (plan : Plan) → length plan.guests ≤ 16
-guests_few plan = let f = wiring_few (macs_of plan.guests) (length (macs_of plan.guests) == length (sniffers_of plan.guests)) (nat_le 1 (length (macs_of plan.guests))) (all_unicast (macs_of plan.guests)) (are_distinct (macs_of plan.guests)) plan.ports in let l = length-map plan.guests (λ (g : GuestPlan). g.mac) in omega arith
-
-filter_few : {X : Type 0} (test : X → Bool) (xs : List X) → length (filter test xs) ≤ length xs
-filter_few test [] = omega arith
-filter_few test (x ∷ xs) = by_test (test x) (filter_few test xs)
-  where
-    by_test : (b : Bool) → length (filter test xs) ≤ length xs → length (cond b (x ∷ filter test xs) (filter test xs)) ≤ suc (length xs)
-    by_test true le = omega arith
-    by_test false le = omega arith
-
-pub targets_few : (plan : Plan) (from : ℕ) (frame : List ℕ) → length (targets (wiring plan.guests) from frame) ≤ 16
-unfolding target_ports
-targets_few plan from frame = let w = wiring plan.guests in let f = filter_few (is_target w from frame) (range_with_len 0 (length w.macs)) in let r = length-range_with_len 0 (length w.macs) in let l = length-map plan.guests (λ (g : GuestPlan). g.mac) in let few = guests_few plan in omega arith
-
-pub targets_in : (plan : Plan) (from : ℕ) (frame : List ℕ) → All (λ to. to < length plan.guests) (targets (wiring plan.guests) from frame)
-targets_in plan from frame = All-weaker (λ to. to < length (macs_of plan.guests)) (λ to. to < length plan.guests) (λ to lt. let l = length-map plan.guests (λ (g : GuestPlan). g.mac) in omega arith) (targets (wiring plan.guests) from frame) (targets_below (wiring plan.guests) from frame)
 
 -- ------------------------------------------------------------ steps
 

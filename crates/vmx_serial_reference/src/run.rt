@@ -1,15 +1,14 @@
 //! The serial run of a plan: number by number, guest by guest.
-ghost use Rattle.std.specs.Prelude.{◌≡◌, ◌≤◌, ◌<◌, ◌+◌, ◌++◌, [], ◌∷◌, nat_eq, if◌then◌else◌, length, map, max, OnOk, IfOk};
-ghost use Rattle.vmx_model.specs.Totals.{records_of};
-ghost use Rattle.vmx_model.specs.Serial.{turns, last_at as last_at_of, last_number as last_number_of, seats_from, start, wires_from, closed, serial_run as serial_run_of};
+ghost use Rattle.std.specs.Prelude.{◌≡◌, ◌≤◌, ◌<◌, ◌+◌, ◌++◌, [], ◌∷◌, nat_eq, if◌then◌else◌, length, map, OnOk, IfOk};
+ghost use Rattle.vmx_model.specs.Serial.{turns, seats_from, start, wires_from, closed, serial_run as serial_run_of};
 ghost use Rattle.vmx_serial_seats.specs.Seats.{seat_of};
-ghost use Rattle.vmx_serial_reference.specs.Early.{AreEarly};
 ghost use Rattle.vmx_serial_reference.specs.Worlds.{wire_of, world_of, IsOnTheWay, MOST_OF_ROUND, empty_wire};
 
 use crate::world::{Wire, World};
 use std::alloc::{AllocError, Global};
 use vmx_io::List;
-use vmx_model::{Action, GuestPlan, Plan};
+use vmx_model::{GuestPlan, Plan};
+use vmx_plan_bounds::last_number;
 use vmx_serial_seats::Seat;
 use vmx_switch::MAX_PORTS;
 
@@ -19,7 +18,7 @@ pub fn serial_run(alloc: Global, plan: &Plan) -> Result<World, AllocError>
     ensures run { IfOk result (λ w. world_of w ≡ serial_run_of plan.now) }
 {
     let mut world = begin(alloc, plan)?;
-    let last = last_number(plan.guests.as_slice());
+    let last = last_number(plan);
     for number in 0..last {
         round(alloc, plan, number, &mut world)?;
     }
@@ -109,38 +108,4 @@ fn close_all(alloc: Global, seats: &mut List<Seat>) -> Result<(), AllocError>
         seats.at_mut(i).close(alloc)?;
     }
     Ok(())
-}
-
-/// The longest capture's number of frames, or the greatest action's number and 1.
-fn last_number(guests: &[GuestPlan]) -> u32
-    requires records { records_of guests.now ≤ 262144 }
-    ensures last { result ≡ last_number_of guests.now }
-    ensures few { result ≤ 262145 }
-{
-    let mut last = 0;
-    for guest in guests {
-        let records = guest.capture.records.len() as u32;
-        last = greater(last, greater(records, last_at(guest.script.as_slice())));
-    }
-    last
-}
-
-/// The greatest number of an action, and 1.
-fn last_at(script: &[Action]) -> u32
-    requires early { AreEarly script.now }
-    ensures last { result ≡ last_at_of script.now }
-    ensures few { result ≤ 262145 }
-{
-    let mut last = 0;
-    for action in script {
-        last = greater(last, action.at + 1);
-    }
-    last
-}
-
-/// The greater of two numbers.
-fn greater(a: u32, b: u32) -> u32
-    ensures greater { result ≡ max a b }
-{
-    if a < b { b } else { a }
 }

@@ -1,10 +1,11 @@
 -- A walk over a guest's captured frames: what it keeps, and that it gives the verdicts.
 use Rattle.std.proofs.lemmas.Bool.Decides.{nat_tests, eqb_tells}
-use Rattle.std.proofs.Common.{◌≡◌, ℕ, zero, suc, ◌+◌, ◌<◌, ◌≤◌, Bool, true, false, not, ◌&&◌, true≢false, List, [], ◌∷◌, ◌++◌, length, length-append, take, get_or, set, refl, ap, sym, ◌∙◌, subst, arith, Some, nat_le, nat_lt, nat_eq, if◌then◌else◌, append-nil, inl, inr}
+use Rattle.std.proofs.Common.{◌≡◌, ℕ, zero, suc, ◌+◌, ◌<◌, ◌≤◌, Bool, true, false, not, ◌&&◌, true≢false, List, [], ◌∷◌, ◌++◌, length, length-append, length-take, take, get_or, set, refl, ap, sym, ◌∙◌, subst, arith, Some, nat_le, nat_lt, nat_eq, if◌then◌else◌, append-nil, inl, inr}
 use Rattle.std.specs.List.{filter, slice_get, AllByRecursion}
 use Rattle.std.proofs.lemmas.Option.{slice_get_within}
-use Rattle.std.proofs.lemmas.List.{length-set, get_or-set_same, get_or-set_other}
+use Rattle.std.proofs.lemmas.List.{length-set, get_or_past, get_or-set_same, get_or-set_other}
 use Rattle.std.proofs.lemmas.List.Elements.{filter-append}
+use Rattle.std.proofs.lemmas.Bool.{and_parts}
 use Rattle.vmx_frame.specs.declared.ethernet.TheConstants.{HEADER_LEN}
 use Rattle.vmx_layout.specs.declared.register.TheConstants.{MAX_QUEUES}
 use Rattle.vmx_model.specs.declared.limits.TheConstants.{ABOVE_MTU, MAX_ACTIONS}
@@ -19,6 +20,9 @@ use Rattle.vmx_model.specs.Wire.{tx_queue, wire_form, posted_form}
 use Rattle.vmx_model.specs.Plan.{past, captured_as, goes_on, place_of, is_down, activation_at, verdict_on}
 use Rattle.vmx_model.specs.PlanSteps.{place_next, place_low}
 use Rattle.vmx_model.specs.QueueSteps.{take_more}
+use Rattle.vmx_model.proofs.Lists.{all_weaker}
+use Rattle.vmx_model.proofs.Tags.{all_append}
+use Rattle.vmx_plan_bounds.proofs.Few.{filter_few}
 use Rattle.vmx_verdicts.specs.Ordered.{is_later, past_from}
 
 -- a walk: its guest, and the number of the frame that is next
@@ -73,13 +77,8 @@ quiet_last : (q : Bool) (acts : List Action) (a : Action) → is_quiet q (acts +
 quiet_last q [] a = refl
 quiet_last q (x ∷ acts) a = quiet_last (quiet_after q x.deed) acts a
 
-all_last : (P : Action → Type 0) (acts : List Action) (a : Action) → AllByRecursion P acts → P a → AllByRecursion P (acts ++ a ∷ [])
-all_last P [] a h p = (p, tt)
-all_last P (x ∷ acts) a h p = (h.0, all_last P acts a h.1 p)
-
 raised : (n : ℕ) (acts : List Action) → AllByRecursion (λ (a : Action). a.at ≤ n) acts → AllByRecursion (λ (a : Action). a.at ≤ n + 1) acts
-raised n [] h = tt
-raised n (a ∷ acts) h = let le : a.at ≤ n = h.0 in (omega (arith, le), raised n acts h.1)
+raised n acts h = all_weaker (λ (a : Action). a.at ≤ n) (λ (a : Action). a.at ≤ n + 1) (λ a le. omega (arith, le)) acts h
 
 -- one action on, and the activation and counts that it leaves
 pub acts_on : (g : GuestPlan) (next done : ℕ) (quiet : Bool) (activation : ℕ) (counts : List ℕ) (a : Action) → IsWalk g next done quiet activation counts → slice_get g.script done ≡ Some a → a.at ≤ next
@@ -103,7 +102,7 @@ acts_on g next done quiet activation counts a w there low activation' counts' sa
       next_low = w.next_low;
       quiet_is = ap (λ (q : Bool). quiet_after q a.deed) w.quiet_is ∙ sym (quiet_last false (take done g.script) a) ∙ ap (is_quiet false) (sym begun);
       activation_is = omega (arith, was, is, m);
-      reached = subst (AllByRecursion (λ (x : Action). x.at ≤ next)) (sym begun) (all_last (λ (x : Action). x.at ≤ next) (take done g.script) a w.reached low);
+      reached = subst (AllByRecursion (λ (x : Action). x.at ≤ next)) (sym begun) (all_append (λ (x : Action). x.at ≤ next) (take done g.script) (a ∷ []) w.reached (low, tt));
       counts_length = ap length n.1;
       places = λ q lt. ap (λ (xs : List ℕ). get_or xs q 0) n.1 ∙ (starts g).places q lt ∙ sym (w.none_yet activation' q (omega (arith, is)));
       none_yet = λ x q lt. w.none_yet x q (omega (arith, lt, is));
@@ -113,7 +112,7 @@ acts_on g next done quiet activation counts a w there low activation' counts' sa
       next_low = w.next_low;
       quiet_is = ap (λ (q : Bool). quiet_after q a.deed) w.quiet_is ∙ sym (quiet_last false (take done g.script) a) ∙ ap (is_quiet false) (sym begun);
       activation_is = omega (arith, was, is, m);
-      reached = subst (AllByRecursion (λ (x : Action). x.at ≤ next)) (sym begun) (all_last (λ (x : Action). x.at ≤ next) (take done g.script) a w.reached low);
+      reached = subst (AllByRecursion (λ (x : Action). x.at ≤ next)) (sym begun) (all_append (λ (x : Action). x.at ≤ next) (take done g.script) (a ∷ []) w.reached (low, tt));
       counts_length = ap length n.1 ∙ w.counts_length;
       places = λ q lt. ap (λ (xs : List ℕ). get_or xs q 0) n.1 ∙ w.places q lt ∙ ap (λ (x : ℕ). place_of g x q next) (sym is);
       none_yet = λ x q lt. w.none_yet x q (omega (arith, lt, is));
@@ -174,10 +173,6 @@ module _ (g : GuestPlan) (next done : ℕ) (quiet : Bool) (activation : ℕ) (co
   stays_unfit : fits ≡ false → IsWalk g (next + 1) done quiet activation counts
   stays_unfit e = stays (λ a q. goes_as a q ∙ unfit quiet (nat_le HEADER_LEN (length r.frame)) (nat_le (length (wire_form (posted_form g r.frame))) (g.setup.mtu + ABOVE_MTU)) (nat_eq activation a && nat_eq queue q) e)
 
-  both : (a b : Bool) → (a && b) ≡ true → (a ≡ true) × (b ≡ true)
-  both true b e = (refl, e)
-  both false b e = absurd (true≢false (sym e))
-
   -- a frame that is sent counts on its queue
   counts_on : (counts' : List ℕ) → quiet ≡ false → fits ≡ true → queue < MAX_QUEUES → counts' ≡ set counts queue (get_or counts queue 0 + 1) → IsWalk g (next + 1) done quiet activation counts'
   counts_on counts' up fit low is = record {
@@ -192,7 +187,7 @@ module _ (g : GuestPlan) (next done : ℕ) (quiet : Bool) (activation : ℕ) (co
   }
     where
       h : (nat_le HEADER_LEN (length r.frame) ≡ true) × (nat_le (length (wire_form (posted_form g r.frame))) (g.setup.mtu + ABOVE_MTU) ≡ true)
-      h = both (nat_le HEADER_LEN (length r.frame)) _ fit
+      h = and_parts (nat_le HEADER_LEN (length r.frame)) _ fit
 
       tests : (b c e d : Bool) → quiet ≡ false → b ≡ true → c ≡ true → (not quiet && (b && (c && (e && d)))) ≡ (e && d)
       tests b c e d u x y = (λ i. not (u i) && (x i && (y i && (e && d))))
@@ -265,28 +260,16 @@ module _ (g : GuestPlan) (next done : ℕ) (quiet : Bool) (activation : ℕ) (co
           (y.0 ∙ sym (verdict_is ∙ (λ i. found (u i) is_short is_long activation (place_of g activation queue next))), stay y.1 (stays_down u))
       by_quiet false u = by_short is_short u refl
 
-count_few : (test : Action → Bool) (n : ℕ) (acts : List Action) → count test (take n acts) ≤ n
-count_few test zero acts = omega arith
-count_few test (suc n) [] = omega arith
-count_few test (suc n) (a ∷ acts) = step (test a) refl (count_few test n acts)
-  where
-    step : (b : Bool) → test a ≡ b → count test (take n acts) ≤ n → count test (take (suc n) (a ∷ acts)) ≤ suc n
-    step true e h = rw e (omega (arith, h))
-    step false e h = rw e (omega (arith, h))
-
 -- numbers are small
 pub few_done : (g : GuestPlan) (next done : ℕ) (quiet : Bool) (activation : ℕ) (counts : List ℕ) (a : Action) → IsWalk g next done quiet activation counts → slice_get g.script done ≡ Some a → (done < MAX_ACTIONS) × (activation < MAX_ACTIONS)
-few_done g next done quiet activation counts a w there = let lt = slice_get_within g.script done a there in let most = g.script_length in let n = count_few (λ (x : Action). begins x.deed) done g.script in let is = w.activation_is in
-    (omega (arith, lt, most), omega (arith, lt, most, n, is))
+few_done g next done quiet activation counts a w there =
+    let lt = slice_get_within g.script done a there in let most = g.script_length in
+    let n = filter_few (λ (x : Action). begins x.deed) (take done g.script) in let before = length-take done g.script in let is = w.activation_is in
+    (omega (arith, lt, most), omega (arith, lt, most, n, before, is))
 
 pub few_counts : (g : GuestPlan) (next done : ℕ) (quiet : Bool) (activation : ℕ) (counts : List ℕ) → IsWalk g next done quiet activation counts → (q : ℕ) → get_or counts q 0 ≤ next
 few_counts g next done quiet activation counts w q = by_low (nat_lt q MAX_QUEUES) refl
   where
-    past_end : (xs : List ℕ) (i : ℕ) → length xs ≤ i → get_or xs i 0 ≡ 0
-    past_end [] i le = refl
-    past_end (x ∷ xs) zero le = absurd (omega (arith, le))
-    past_end (x ∷ xs) (suc i) le = past_end xs i (omega (arith, le))
-
     by_low : (b : Bool) → nat_lt q MAX_QUEUES ≡ b → get_or counts q 0 ≤ next
     by_low true e = let lt : q < MAX_QUEUES = grind (arith, nat_tests, e) in let n = w.places q lt in let low = place_low g activation q next in omega (arith, n, low)
-    by_low false e = let l = w.counts_length in let z = past_end counts q (let le : MAX_QUEUES ≤ q = grind (arith, nat_tests, e) in omega (arith, l, le)) in omega (arith, z)
+    by_low false e = let l = w.counts_length in let z = get_or_past counts q 0 (let le : MAX_QUEUES ≤ q = grind (arith, nat_tests, e) in omega (arith, l, le)) in omega (arith, z)

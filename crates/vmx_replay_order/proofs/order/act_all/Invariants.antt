@@ -1,7 +1,7 @@
-use Rattle.std.proofs.Common.{◌≡◌, ◌+◌, ◌*◌, ◌^◌}
+use Rattle.std.proofs.Common.{◌≡◌, ◌+◌, ◌*◌}
 use Rattle.std.specs.List.{slice_get}
 use Rattle.vmx_model.specs.Turns.{IsReady}
-use Rattle.vmx_replay_order.specs.Short.{AreShort}
+use Rattle.vmx_replay_order.specs.Short.{AreShort, ENTRIES_AT_TURN}
 use Rattle.vmx_replay_order.specs.Orders.{acted_by}
 use Rattle.vmx_replay_order.specs.Standing.{OthersBegun}
 use Rattle.vmx_replay_order.proofs.Actions.{rest_of, many_left, Within}
@@ -12,7 +12,7 @@ invariant-loop-actors g l = record {
   left : rest_of l.port l.number (slice_get (g.A.Actors.run l.fn.actors).plan.guests l.port) ((g.A.Actors.run l.actors).reached l.port) (g.A.Actors.run l.actors).world ≡ acted_by l.port l.number (slice_get (g.A.Actors.run l.fn.actors).plan.guests l.port) (g.A.Actors.run l.fn.actors).world;
   within : Within l.number (slice_get (g.A.Actors.run l.fn.actors).plan.guests l.port) ((g.A.Actors.run l.actors).reached l.port);
   others : OthersBegun l.port (g.A.Actors.run l.fn.actors) (g.A.Actors.run l.actors);
-  short : AreShort (2 ^ 47 + 2 * (g.A.Actors.run l.actors).reached l.port) (g.A.Actors.run l.actors).world;
+  short : AreShort (ENTRIES_AT_TURN + 2 * (g.A.Actors.run l.actors).reached l.port) (g.A.Actors.run l.actors).world;
   ready : IsReady (g.A.Actors.run l.fn.actors).plan (g.A.Actors.run l.actors).world;
 }
 

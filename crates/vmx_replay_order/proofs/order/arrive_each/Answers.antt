@@ -1,10 +1,11 @@
-use Rattle.std.proofs.Common.{◌∙◌, ◌+◌, ◌^◌, ◌<◌, ◌≢◌, ℕ, ap, sym, arith, get_or, length, subst}
+use Rattle.std.proofs.Common.{◌∙◌, ◌+◌, ◌<◌, ◌≢◌, ℕ, ap, sym, arith, get_or, length, subst}
+use Rattle.std.proofs.lemmas.List.Sums.{fold_more}
 use Rattle.vmx_model.specs.declared.plan.Plan.{Plan}
 use Rattle.vmx_replay_order.specs.Runs.{RunView, ComesFrom}
-use Rattle.vmx_replay_order.specs.Short.{AreShort, MOST_ENTRIES}
+use Rattle.vmx_replay_order.specs.Short.{AreShort, ENTRIES_AT_ARRIVALS, MOST_ENTRIES}
 use Rattle.vmx_replay_order.specs.Orders.{arrives}
 use Rattle.vmx_replay_order.proofs.Short.{short_more, short_arrives}
-use Rattle.vmx_replay_order.proofs.Arrivals.{comes_on, fold_more}
+use Rattle.vmx_replay_order.proofs.Arrivals.{comes_on}
 use Rattle.vmx_replay_order.proofs.order.arrive_each.Goals as goal
 
 pub arrive-requires-clause-ports : goal.arrive-requires-clause-ports
@@ -12,12 +13,12 @@ arrive-requires-clause-ports g c = let a = c.args in let l = c.loop-to in let to
     subst (λ (p : Plan). (a.from < length p.guests) × (get_or a.targets.now l.to-index 0 < length p.guests) × (get_or a.targets.now l.to-index 0 ≢ a.from)) (sym l.invariant.plan) (c.requires.from, to.0, to.1)
 
 pub arrive-requires-clause-short : goal.arrive-requires-clause-short
-arrive-requires-clause-short g c = let l = c.loop-to in short_more (2 ^ 49 + l.to-index) MOST_ENTRIES (g.A.Actors.run l.actors).world (let few = c.requires.few in omega arith) l.invariant.short
+arrive-requires-clause-short g c = let l = c.loop-to in short_more (ENTRIES_AT_ARRIVALS + l.to-index) MOST_ENTRIES (g.A.Actors.run l.actors).world (let few = c.requires.few in omega arith) l.invariant.short
 
 pub loop-to-preserved : goal.loop-to-preserved
 loop-to-preserved g c = let a = c.args in let l = c.loop-to in let e = c.in_ok-arrive.ensures.arrives in let to : ℕ = get_or a.targets.now l.to-index 0 in let s : RunView = g.A.Actors.run l.actors in record {
-  arrive = e ∙ ap (λ (r : RunView). arrives a.from r to) l.invariant.arrive ∙ fold_more (arrives a.from) (g.A.Actors.run a.actors.now) a.targets.now l.to-index c.loop-to-test.true;
+  arrive = e ∙ ap (λ (r : RunView). arrives a.from r to) l.invariant.arrive ∙ sym (fold_more (arrives a.from) (g.A.Actors.run a.actors.now) a.targets.now l.to-index 0 c.loop-to-test.true);
   plan = ap (λ (r : RunView). r.plan) e ∙ l.invariant.plan;
   alone = subst (λ (r : RunView). ComesFrom a.from r.world) (sym e) (comes_on a.from to s l.invariant.alone);
-  short = subst (λ (r : RunView). AreShort (2 ^ 49 + (l.to-index + 1)) r.world) (sym e) (short_more (2 ^ 49 + l.to-index + 1) (2 ^ 49 + (l.to-index + 1)) (arrives a.from s to).world (omega arith) (short_arrives (2 ^ 49 + l.to-index) a.from to s l.invariant.short));
+  short = subst (λ (r : RunView). AreShort (ENTRIES_AT_ARRIVALS + (l.to-index + 1)) r.world) (sym e) (short_more (ENTRIES_AT_ARRIVALS + l.to-index + 1) (ENTRIES_AT_ARRIVALS + (l.to-index + 1)) (arrives a.from s to).world (omega arith) (short_arrives (ENTRIES_AT_ARRIVALS + l.to-index) a.from to s l.invariant.short));
 }

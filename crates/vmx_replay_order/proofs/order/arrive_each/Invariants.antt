@@ -1,7 +1,7 @@
-use Rattle.std.proofs.Common.{◌≡◌, ◌+◌, ◌^◌, take}
+use Rattle.std.proofs.Common.{◌≡◌, ◌+◌, take}
 use Rattle.std.specs.List.{fold}
 use Rattle.vmx_replay_order.specs.Runs.{ComesFrom}
-use Rattle.vmx_replay_order.specs.Short.{AreShort}
+use Rattle.vmx_replay_order.specs.Short.{AreShort, ENTRIES_AT_ARRIVALS}
 use Rattle.vmx_replay_order.specs.Orders.{arrives}
 use Rattle.vmx_replay_order.proofs.order.arrive_each.Given as goal
 
@@ -10,5 +10,5 @@ invariant-loop-to g l = record {
   arrive : g.A.Actors.run l.actors ≡ fold (arrives l.from) (g.A.Actors.run l.fn.actors) (take l.to-index l.targets);
   plan : (g.A.Actors.run l.actors).plan ≡ (g.A.Actors.run l.fn.actors).plan;
   alone : ComesFrom l.from (g.A.Actors.run l.actors).world;
-  short : AreShort (2 ^ 49 + l.to-index) (g.A.Actors.run l.actors).world;
+  short : AreShort (ENTRIES_AT_ARRIVALS + l.to-index) (g.A.Actors.run l.actors).world;
 }

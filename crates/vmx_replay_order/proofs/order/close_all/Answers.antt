@@ -1,10 +1,10 @@
-use Rattle.std.proofs.Common.{◌+◌, ◌^◌, ◌<◌, ◌∙◌, sym, arith, subst, length}
+use Rattle.std.proofs.Common.{◌+◌, ◌<◌, ◌∙◌, sym, arith, subst, length}
 use Rattle.vmx_model.specs.Turns.{IsReady}
 use Rattle.vmx_model.proofs.Ready.{closed_to}
 use Rattle.vmx_replay_order.specs.Runs.{RunView}
 use Rattle.vmx_replay_order.specs.Standing.{IsOver}
 use Rattle.vmx_replay_order.proofs.Closing.{closed_next, closed_ready, closed_whole}
-use Rattle.vmx_replay_order.specs.Short.{AreShort, MOST_ENTRIES}
+use Rattle.vmx_replay_order.specs.Short.{AreShort, ENTRIES_AT_CLOSE, MOST_ENTRIES}
 use Rattle.vmx_replay_order.proofs.Short.{short_more, short_closed}
 use Rattle.vmx_replay_order.proofs.order.close_all.Goals as goal
 
@@ -14,7 +14,7 @@ close-requires g c = let a = c.args in let l = c.loop-port in let r : RunView = 
       port = subst (λ (x : RunView). l.port < length x.plan.guests) (sym e) low;
       over = subst (λ (x : RunView). IsOver l.port x) (sym e) (c.requires.over l.port low);
       ready = subst (λ (x : RunView). IsReady x.plan x.world) (sym e) (closed_ready r.plan l.port r.world c.requires.ready);
-      short = subst (λ (x : RunView). AreShort MOST_ENTRIES x.world) (sym e) (short_more (2 ^ 49 + l.port) MOST_ENTRIES (record r.world { seats = closed_to l.port r.world.seats }) (omega arith) (short_closed (2 ^ 49) l.port r.world c.requires.short));
+      short = subst (λ (x : RunView). AreShort MOST_ENTRIES x.world) (sym e) (short_more (ENTRIES_AT_CLOSE + l.port) MOST_ENTRIES (record r.world { seats = closed_to l.port r.world.seats }) (omega arith) (short_closed ENTRIES_AT_CLOSE l.port r.world c.requires.short));
     }
 
 pub loop-port-preserved : goal.loop-port-preserved

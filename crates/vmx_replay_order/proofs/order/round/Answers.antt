@@ -1,4 +1,4 @@
-use Rattle.std.proofs.Common.{◌+◌, ◌*◌, ◌^◌, ◌<◌, ◌∙◌, ap, sym, arith, subst, length, refl}
+use Rattle.std.proofs.Common.{◌+◌, ◌*◌, ◌<◌, ◌∙◌, ap, sym, arith, subst, length, refl}
 use Rattle.vmx_model.specs.declared.plan.Plan.{Plan}
 use Rattle.vmx_model.specs.Serial.{turn}
 use Rattle.vmx_model.specs.SerialSteps.{turns_none, turns_more}
@@ -6,7 +6,7 @@ use Rattle.vmx_model.specs.Turns.{IsReady}
 use Rattle.vmx_model.proofs.Ready.{ready_turns}
 use Rattle.vmx_replay_order.specs.Runs.{RunView}
 use Rattle.vmx_replay_order.proofs.Closing.{from_next, below_next}
-use Rattle.vmx_replay_order.specs.Short.{AreShort}
+use Rattle.vmx_replay_order.specs.Short.{AreShort, ENTRIES_OF_TURN, ENTRIES_AT_ROUND, ENTRIES_AT_TURN}
 use Rattle.vmx_replay_order.proofs.Short.{short_more, short_turns}
 use Rattle.vmx_replay_order.proofs.order.round.Goals as goal
 
@@ -23,7 +23,7 @@ turn-requires g c = let a = c.args in let l = c.loop-port in let r : RunView = g
     let low : l.port < length (g.A.Actors.run l.actors).plan.guests = subst (λ (p : Plan). l.port < length p.guests) (sym e.plan) (let n = c.requires.guests in omega arith) in record {
       port = low;
       stands = e.ahead l.port (omega arith) low;
-      short = short_more (2 ^ 46 + 544 * l.port) (2 ^ 47) (g.A.Actors.run l.actors).world (omega arith) (subst (AreShort (2 ^ 46 + 544 * l.port)) (sym e.world) (short_turns (2 ^ 46) r.plan a.number l.port r.world c.requires.short));
+      short = short_more (ENTRIES_AT_ROUND + ENTRIES_OF_TURN * l.port) ENTRIES_AT_TURN (g.A.Actors.run l.actors).world (omega arith) (subst (AreShort (ENTRIES_AT_ROUND + ENTRIES_OF_TURN * l.port)) (sym e.world) (short_turns ENTRIES_AT_ROUND r.plan a.number l.port r.world c.requires.short));
       ready = subst (λ (p : Plan). IsReady p (g.A.Actors.run l.actors).world) (sym e.plan) (subst (IsReady r.plan) (sym e.world) (ready_turns r.plan a.number l.port r.world c.requires.ready));
     }
 

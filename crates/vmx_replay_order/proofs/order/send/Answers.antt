@@ -1,4 +1,4 @@
-use Rattle.std.proofs.Common.{◌≢◌, ◌+◌, ◌^◌, ◌<◌, ◌∙◌, arith, ℕ, All, List, take, ap, ap₂, sym, subst, length}
+use Rattle.std.proofs.Common.{◌≢◌, ◌+◌, ◌<◌, ◌∙◌, arith, ℕ, All, List, take, ap, ap₂, sym, subst, length}
 use Rattle.std.specs.List.{fold}
 use Rattle.std.proofs.lemmas.Result.{on_ok_weaker}
 use Rattle.vmx_model.specs.declared.plan.Plan.{Plan}
@@ -6,7 +6,7 @@ use Rattle.vmx_replay_order.specs.Runs.{RunView, puts, ComesFrom}
 use Rattle.vmx_replay_order.specs.Orders.{arrives}
 use Rattle.vmx_replay_order.proofs.Frames.{goes_all, comes_puts, sends_is}
 use Rattle.vmx_switch.specs.declared.answer.TheConstants.{MAX_PORTS}
-use Rattle.vmx_replay_order.specs.Short.{AreShort}
+use Rattle.vmx_replay_order.specs.Short.{AreShort, ENTRIES_AT_FRAME, ENTRIES_AT_ARRIVALS}
 use Rattle.vmx_replay_order.proofs.Short.{short_more, short_puts}
 use Rattle.vmx_replay_order.proofs.order.send.Goals as goal
 
@@ -23,7 +23,7 @@ arrive_each-requires-clause-alone g c = let a = c.args in let r : RunView = g.A.
 
 pub arrive_each-requires-clause-short : goal.arrive_each-requires-clause-short
 arrive_each-requires-clause-short g c = let a = c.args in let r : RunView = g.A.Actors.run a.actors.now in
-    subst (λ (x : RunView). AreShort (2 ^ 49) x.world) (sym c.in_ok-targets.ensures.puts) (short_more (2 ^ 48 + MAX_PORTS) (2 ^ 49) (puts a.port a.number r).world (omega arith) (short_puts (2 ^ 48) a.port a.number r c.requires.short))
+    subst (λ (x : RunView). AreShort ENTRIES_AT_ARRIVALS x.world) (sym c.in_ok-targets.ensures.puts) (short_more (ENTRIES_AT_FRAME + MAX_PORTS) ENTRIES_AT_ARRIVALS (puts a.port a.number r).world (omega arith) (short_puts ENTRIES_AT_FRAME a.port a.number r c.requires.short))
 
 pub returns : goal.returns
 returns g c = let a = c.args in let r : RunView = g.A.Actors.run a.actors.now in let e = c.in_ok-targets.ensures in

@@ -1,4 +1,4 @@
-use Rattle.std.proofs.Common.{◌≡◌, ◌+◌, ◌*◌, ◌^◌, ◌<◌, ◌∙◌, ℕ, ap, sym, arith, subst, length}
+use Rattle.std.proofs.Common.{◌≡◌, ◌+◌, ◌*◌, ◌<◌, ◌∙◌, ℕ, ap, sym, arith, subst, length}
 use Rattle.std.proofs.lemmas.Result.{on_ok_weaker}
 use Rattle.vmx_model.specs.declared.plan.Plan.{Plan}
 use Rattle.vmx_model.specs.Serial.{turns, rounds, start, last_number}
@@ -7,7 +7,7 @@ use Rattle.vmx_model.specs.Turns.{IsReady}
 use Rattle.vmx_model.proofs.Ready.{ready_rounds, ready_start}
 use Rattle.vmx_replay_order.specs.Runs.{RunView}
 use Rattle.vmx_replay_order.proofs.Closing.{at_first, over_last, run_is}
-use Rattle.vmx_replay_order.specs.Short.{AreShort}
+use Rattle.vmx_replay_order.specs.Short.{AreShort, ENTRIES_OF_ROUND, ENTRIES_AT_ROUND, ENTRIES_AT_CLOSE}
 use Rattle.vmx_replay_order.proofs.Short.{short_more, short_rounds}
 use Rattle.vmx_replay_order.proofs.order.serial.Goals as goal
 
@@ -22,7 +22,7 @@ pub round-requires : goal.round-requires
 round-requires g c = let a = c.args in let l = c.loop-number in let i = l.invariant in record {
   guests = c.len-guests.ensures.len ∙ ap (λ (p : Plan). length p.guests) (sym i.plan);
   stand = i.stand;
-  short = short_more (1 + 8704 * l.number) (2 ^ 46) (g.A.Actors.run l.actors).world (omega arith) (subst (AreShort (1 + 8704 * l.number)) (sym i.world) (short_rounds a.plan.now l.number));
+  short = short_more (1 + ENTRIES_OF_ROUND * l.number) ENTRIES_AT_ROUND (g.A.Actors.run l.actors).world (omega arith) (subst (AreShort (1 + ENTRIES_OF_ROUND * l.number)) (sym i.world) (short_rounds a.plan.now l.number));
   ready = subst (λ (p : Plan). IsReady p (g.A.Actors.run l.actors).world) (sym i.plan) (subst (IsReady a.plan.now) (sym i.world) (ready_rounds a.plan.now l.number (start a.plan.now) (ready_start a.plan.now)));
 }
 
@@ -35,14 +35,14 @@ loop-number-preserved g c = let a = c.args in let l = c.loop-number in let i = l
 
 pub close_all-requires : goal.close_all-requires
 close_all-requires g c = let a = c.args in let l = c.loop-number in let i = l.invariant in
-    let ended : l.number ≡ last_number a.plan.now.guests = (let e = ap last_number c.as_slice.ensures.items in omega arith) in record {
+    let ended : l.number ≡ last_number a.plan.now.guests = omega arith in record {
       guests = c.len-guests.ensures.len ∙ ap (λ (p : Plan). length p.guests) (sym i.plan);
       over = λ h lt. over_last l.number h (g.A.Actors.run l.actors) (ended ∙ ap (λ (p : Plan). last_number p.guests) (sym i.plan)) (i.stand h lt);
-      short = short_more (1 + 8704 * l.number) (2 ^ 49) (g.A.Actors.run l.actors).world (omega arith) (subst (AreShort (1 + 8704 * l.number)) (sym i.world) (short_rounds a.plan.now l.number));
+      short = short_more (1 + ENTRIES_OF_ROUND * l.number) ENTRIES_AT_CLOSE (g.A.Actors.run l.actors).world (omega arith) (subst (AreShort (1 + ENTRIES_OF_ROUND * l.number)) (sym i.world) (short_rounds a.plan.now l.number));
       ready = subst (λ (p : Plan). IsReady p (g.A.Actors.run l.actors).world) (sym i.plan) (subst (IsReady a.plan.now) (sym i.world) (ready_rounds a.plan.now l.number (start a.plan.now) (ready_start a.plan.now)));
     }
 
 pub returns : goal.returns
 returns g c = let a = c.args in let l = c.loop-number in let i = l.invariant in
-    let ended : l.number ≡ last_number a.plan.now.guests = (let e = ap last_number c.as_slice.ensures.items in omega arith) in
+    let ended : l.number ≡ last_number a.plan.now.guests = omega arith in
     record { run = on_ok_weaker c.close_all.result (λ e. ap (λ (x : RunView). x.world) e ∙ run_is a.plan.now (g.A.Actors.run l.actors).world (i.world ∙ ap (λ (n : ℕ). rounds a.plan.now n (start a.plan.now)) ended)) c.close_all.ensures.closed }

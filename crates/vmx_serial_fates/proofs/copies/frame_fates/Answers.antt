@@ -7,8 +7,9 @@ use Rattle.vmx_model.specs.declared.sending.Sending.TheVariants as sending
 use Rattle.vmx_model.specs.declared.journal.Fate.TheVariants as fate
 use Rattle.vmx_serial_reference.specs.Worlds.{world_of}
 use Rattle.vmx_serial_fates.specs.Fates.{facts_of}
+use Rattle.vmx_model.specs.PlanSteps.{there}
 use Rattle.vmx_model.proofs.Sends.{sent_frame}
-use Rattle.vmx_serial_reference.proofs.Turns.{there, sent_wire}
+use Rattle.vmx_serial_reference.proofs.Turns.{sent_wire}
 use Rattle.vmx_serial_fates.proofs.FateLaws.{idle_fates, sent_on_fates}
 use Rattle.vmx_serial_fates.proofs.copies.frame_fates.Goals as goal
 

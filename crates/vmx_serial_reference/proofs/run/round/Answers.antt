@@ -2,7 +2,8 @@ use Rattle.std.proofs.Common.{◌+◌, ◌*◌, ◌^◌, ◌∙◌, arith, ap, s
 use Rattle.vmx_model.specs.Serial.{turn}
 use Rattle.vmx_model.specs.SerialSteps.{turns_none, turns_more}
 use Rattle.vmx_serial_reference.specs.Worlds.{world_of, IsOnTheWay, MOST_OF_ROUND}
-use Rattle.vmx_serial_reference.proofs.WayLaws.{way_turns, way_more, guests_few}
+use Rattle.vmx_plan_bounds.proofs.Few.{guests_few}
+use Rattle.vmx_serial_reference.proofs.WayLaws.{way_turns, way_more}
 use Rattle.vmx_serial_reference.proofs.run.round.Goals as goal
 
 pub loop-port-init : goal.loop-port-init

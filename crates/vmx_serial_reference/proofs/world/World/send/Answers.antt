@@ -1,5 +1,6 @@
 use Rattle.std.proofs.Common.{◌≡◌, ◌≤◌, ◌∙◌, length, ap, sym, arith, refl, subst, List, ℕ, Some}
 use Rattle.std.specs.List.{slice_get}
+use Rattle.std.proofs.lemmas.Option.{slice_get_within}
 use Rattle.std.proofs.lemmas.Result.{on_ok_weaker}
 use Rattle.vmx_pcap.specs.declared.records.Stamped.{Stamped}
 use Rattle.vmx_ends.specs.declared.packet.Tag.{Tag}
@@ -8,19 +9,20 @@ use Rattle.vmx_ends.specs.declared.frames.Sent.{Sent}
 use Rattle.vmx_model.specs.Wire.{posted_form, wire_form}
 use Rattle.vmx_serial_queues.specs.Queues.{marked}
 use Rattle.vmx_model.specs.Turns.{send_from}
+use Rattle.vmx_model.specs.PlanSteps.{there}
 use Rattle.vmx_model.proofs.Sends.{sends_none, sends_idle, sends_sent, sent_frame}
 use Rattle.vmx_serial_reference.specs.Worlds.{world_of}
-use Rattle.vmx_serial_reference.proofs.Turns.{there, below, sent_wire}
+use Rattle.vmx_serial_reference.proofs.Turns.{sent_wire}
 use Rattle.vmx_serial_reference.proofs.world.World.send.Goals as goal
 
 pub returns-then-number-records : goal.returns-then-number-records
 returns-then-number-records c = let a = c.args in let l = ap length c.as_slice-records.ensures.items in record { sends = sends_none a.plan.now a.port a.guest.now a.number (world_of a.self.now) (omega arith) }
 
 pub verdict-requires-clause-guest : goal.verdict-requires-clause-guest
-verdict-requires-clause-guest c = let a = c.args in below a.plan.now.guests a.port a.guest.now c.requires.guest
+verdict-requires-clause-guest c = let a = c.args in slice_get_within a.plan.now.guests a.port a.guest.now c.requires.guest
 
 pub send_on-requires-clause-port : goal.send_on-requires-clause-port
-send_on-requires-clause-port c = let a = c.args in below a.plan.now.guests a.port a.guest.now c.requires.guest
+send_on-requires-clause-port c = let a = c.args in slice_get_within a.plan.now.guests a.port a.guest.now c.requires.guest
 
 pub mark_of-requires : goal.mark_of-requires
 mark_of-requires c = let a = c.args in let r : Stamped = c.index-records-number.result in let l = ap length c.as_slice-records.ensures.items in

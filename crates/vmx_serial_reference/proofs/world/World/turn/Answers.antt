@@ -8,8 +8,9 @@ use Rattle.vmx_serial_seats.specs.Seats.{seat_of}
 use Rattle.vmx_serial_reference.specs.Worlds.{wire_of, world_of}
 use Rattle.vmx_serial_seats.specs.Small.{IsSmall}
 use Rattle.vmx_serial_reference.proofs.WayLaws.{at_small, small_acted}
+use Rattle.vmx_model.specs.PlanSteps.{there}
 use Rattle.vmx_model.proofs.Sends.{turn_there}
-use Rattle.vmx_serial_reference.proofs.Turns.{there, queues_there}
+use Rattle.vmx_serial_reference.proofs.Turns.{queues_there}
 use Rattle.vmx_serial_reference.proofs.world.World.turn.Goals as goal
 
 pub act_at-requires-clause-queues : goal.act_at-requires-clause-queues

@@ -1,7 +1,7 @@
 use Rattle.std.proofs.Common.{◌≡◌, ◌≤◌, ◌+◌, drop, max}
 use Rattle.vmx_model.specs.declared.limits.TheConstants.{MAX_NUMBER}
 use Rattle.vmx_model.specs.Serial.{last_at}
-use Rattle.vmx_replay_order.proofs.last.last_at.Given as goal
+use Rattle.vmx_plan_bounds.proofs.last.last_at.Given as goal
 
 abbrev pub invariant-loop-action : goal.invariant-loop-action
 invariant-loop-action l = record {

@@ -1,9 +1,0 @@
-use Rattle.std.proofs.Common.{◌≡◌, ◌≤◌, drop, max}
-use Rattle.vmx_model.specs.Serial.{last_at}
-use Rattle.vmx_serial_reference.proofs.run.last_at.Given as goal
-
-abbrev pub invariant-loop-action : goal.invariant-loop-action
-invariant-loop-action l = record {
-  last : max l.last (last_at (drop l.action-index l.script)) ≡ last_at l.script;
-  few : l.last ≤ 262145;
-}
