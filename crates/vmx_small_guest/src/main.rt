@@ -3,15 +3,13 @@
 //! each growth of memory of it in turn.
 #![tactic(auto)]
 
-mod guest;
-mod plans;
-
-use crate::guest::{Guest, packet_to_guest};
 use std::alloc::{AllocError, Global};
 use std::io;
 use vmx_driver::Turn;
 use vmx_ends::Packet;
-use vmx_model::Plan;
+use vmx_io::List;
+use vmx_model::{Action, Deed, Plan};
+use vmx_two_guests::{Driven, Far, Guest, Served, first_of, frame_to, packet_of, plan_of};
 
 /// The most turns of the driver.
 const TURNS: u32 = 100;
@@ -19,35 +17,66 @@ const TURNS: u32 = 100;
 /// The turn before which the other guest sends its frame.
 const SENDS: u32 = 2;
 
+/// A script that quiesces the guest and activates it again before its second frame.
+fn script(alloc: Global) -> Result<List<Action>, AllocError> {
+    let mut script = List::new(alloc);
+    for deed in [Deed::Quiesce, Deed::Activate] {
+        script.push(Action { at: 1, deed })?;
+    }
+    Ok(script)
+}
+
 /// What is there before the guest runs.
 fn made(alloc: Global) -> Result<Option<(Plan, Packet)>, AllocError> {
-    let packet = packet_to_guest(alloc)?;
-    let plan = plans::plan(alloc)?;
+    let packet = packet_of(alloc, &frame_to(0))?;
+    let plan = plan_of(alloc, 3, script(alloc)?, 0)?;
     Ok(plan.map(|plan| (plan, packet)))
 }
 
+/// A turn of the driver, made again where it found no memory.
+fn drive(driver: &mut Driven) -> Result<Turn, AllocError> {
+    match driver.turn() {
+        Ok(turn) => Ok(turn),
+        Err(_) => driver.turn(),
+    }
+}
+
+/// A turn of the device, made again where it found no memory.
+fn serve(device: &mut Served) -> Result<(), AllocError> {
+    match device.turn() {
+        Ok(_) => {}
+        Err(_) => {
+            device.turn()?;
+        }
+    }
+    Ok(())
+}
+
 /// Turn by turn, the driver's and then the device's. Says whether the driver ended.
-fn run(guest: &mut Guest, packet: Packet) -> Result<bool, AllocError> {
+fn run(guest: &mut Guest, far: Far, packet: Packet) -> Result<bool, AllocError> {
+    let mut far = far;
     let mut packet = Some(packet);
     for turn in 0..TURNS {
         if turn == SENDS {
             if let Some(packet) = packet.take() {
-                guest.send(packet);
+                far.send(packet);
             }
         }
-        match guest.turn()? {
+        match drive(&mut guest.driver)? {
             Turn::Worked | Turn::Idle => {}
-            Turn::Drained => guest.close(),
+            Turn::Drained => {
+                guest.driver.close();
+            }
             Turn::Ended => return Ok(true),
         }
-        guest.device_turn()?;
+        serve(&mut guest.device)?;
     }
     Ok(false)
 }
 
 /// Prints what the device wrote down.
 fn print_entries<R: Print>(rt: &R, guest: &Guest) -> io::Result<()> {
-    for entry in guest.entries() {
+    for entry in guest.device.device.journal().entries.as_slice() {
         println!(rt; "{entry:?}")?;
     }
     Ok(())
@@ -55,7 +84,7 @@ fn print_entries<R: Print>(rt: &R, guest: &Guest) -> io::Result<()> {
 
 /// Prints what the driver handed up.
 fn print_received<R: Print>(rt: &R, guest: &Guest) -> io::Result<()> {
-    for frame in guest.received() {
+    for frame in guest.driver.driver.received() {
         let (activation, queue, place) = (frame.activation, frame.queue, frame.place);
         println!(rt; "handed up: activation {activation}, queue {queue}, place {place}")?;
     }
@@ -72,9 +101,9 @@ fn ending(ended: Result<bool, AllocError>) -> &'static str {
 }
 
 /// Runs a guest, and prints what it left.
-fn tell<R: Print>(rt: &R, guest: Guest, packet: Packet) -> io::Result<()> {
+fn tell<R: Print>(rt: &R, guest: Guest, far: Far, packet: Packet) -> io::Result<()> {
     let mut guest = guest;
-    let ending = ending(run(&mut guest, packet));
+    let ending = ending(run(&mut guest, far, packet));
     print_entries(rt, &guest)?;
     print_received(rt, &guest)?;
     println!(rt; "{ending}")
@@ -85,8 +114,8 @@ fn main(rt: HostRuntime) -> io::Result<()> {
     let Ok(Some((plan, packet))) = made(alloc) else {
         return println!(rt; "no memory for the plan");
     };
-    match Guest::new(alloc, &plan) {
-        Ok(Some(guest)) => tell(&rt, guest, packet),
+    match first_of(alloc, &plan) {
+        Ok(Some((guest, far))) => tell(&rt, guest, far, packet),
         _ => println!(rt; "no memory for the guest"),
     }
 }

@@ -2,4 +2,6 @@
 #![tactic(auto)]
 
 #[cfg(test)]
+mod fates;
+#[cfg(test)]
 mod threads;

@@ -1,81 +1,49 @@
 //! Two guests on four threads: the driver and the device of each have a thread of their own.
 
-ghost use Rattle.std.proofs.Props.{props};
-ghost use Rattle.std.specs.Prelude.{◌≡◌};
-ghost use Rattle.vmx_driver.specs.Stocked.{AreEven};
-ghost use Rattle.vmx_two_guests.specs.Ready.{IsReady};
-ghost use Rattle.vmx_two_guests.specs.declared.guests.TheConstants.{TURNS};
-
+use crate::fates::{came, came_up, on_the_link};
 use std::test::Fail;
 use std::thread;
 use std::thread::Threads;
-use vmx_device::Device;
-use vmx_driver::{Driver, Turn};
-use vmx_driver_steps::Due;
-use vmx_lists::ListFabric;
-use vmx_model::{Entry, Fate, Journal, Way};
-use vmx_two_guests::{Guest, TURNS, guests_of, plan_of_two};
+use vmx_driver::Turn;
+use vmx_io::List;
+use vmx_two_guests::{Driven, Guest, Served, guests_of, plan_of};
+
+/// The most turns of an actor.
+const TURNS: u64 = 10_000_000;
 
 /// The most turns of a device after that.
 const FURTHER: u64 = 1_000;
 
-/// Frames that each guest sends to the other.
-const FRAMES: u32 = 200;
-
-/// A driver after its turns.
-#[derive(Drop)]
-struct Driven<'a> {
-    driver: Driver<'a, ListFabric>,
-    /// Whether it ended.
-    ended: bool,
-    ghost even: { AreEven driver.driver } by { Prim.hlevel props },
-}
+/// Frames that each guest sends to the other: fewer than a link holds.
+const FRAMES: u32 = 40;
 
 /// A driver makes its turns until it has ended. Where nothing is left to be sent, it is closed.
-fn drive<'a>(driver: Driver<'a, ListFabric>) -> Driven<'a>
-    requires even { AreEven driver.driver }
-{
+fn drive<'a>(driver: Driven<'a>) -> Driven<'a> {
     let mut driver = driver;
-    let mut ended = false;
-    for turn in 0..TURNS {
+    for _ in 0..TURNS {
         match driver.turn() {
             Ok(Turn::Worked) => {}
             Ok(Turn::Idle) => thread::yield_now(),
-            Ok(Turn::Drained) => close(&mut driver),
-            Ok(Turn::Ended) => {
-                ended = true;
-                break;
+            Ok(Turn::Drained) => {
+                driver.close();
             }
-            Err(_) => break,
+            Ok(Turn::Ended) | Err(_) => break,
         }
     }
-    Driven { driver, ended }
-}
-
-/// Closes a driver with which nothing is due.
-fn close(driver: &mut Driver<ListFabric>)
-    requires even { AreEven driver.old.driver }
-    ensures even { AreEven driver.new.driver }
-{
-    if driver.due() == Due::Nothing {
-        driver.close();
-    }
+    driver
 }
 
 /// A device makes its turns until it has given back the ends that it held.
-fn serve(device: Device<ListFabric>) -> Device<ListFabric>
-    requires ready { IsReady 0 device }
-    ensures ready { IsReady TURNS result }
-{
+fn serve(device: Served) -> Served {
     let mut device = device;
     let mut held = false;
-    for turn in 0..TURNS {
+    for _ in 0..TURNS {
         match device.turn() {
-            Ok(vmx_device::Turn::Worked) => {}
+            Ok(Some(vmx_device::Turn::Worked)) => {}
             Ok(_) => thread::yield_now(),
             Err(_) => break,
         }
-        let holds = device.ends().is_some();
+        let holds = device.device.ends().is_some();
         if held && !holds {
             break;
         }
@@ -85,154 +53,49 @@ fn serve(device: Device<ListFabric>) -> Device<ListFabric>
 }
 
 /// Both actors of a guest run to their end, each on a thread of its own.
-fn run<'a, R: Threads + Sync>(rt: &R, guest: Guest<'a>) -> Guest<'a>
-    requires new { guest.turns ≡ 0 }
-{
-    let Guest {
-        driver,
-        device,
-        ended: _,
-        turns: _,
-    } = guest;
-    let (driven, device) = thread::join(
-        rt,
-        move ||
-            requires even { AreEven driver.driver }
-        { drive(driver) },
-        move ||
-            requires ready { IsReady 0 device }
-            ensures ready { IsReady TURNS result }
-        { serve(device) },
-    );
-    let Driven { driver, ended } = driven;
-    Guest {
-        driver,
-        device,
-        ended,
-        turns: TURNS,
-    }
+fn run<'a, R: Threads + Sync>(rt: &R, guest: Guest<'a>) -> Guest<'a> {
+    let Guest { driver, device } = guest;
+    let (driver, device) = thread::join(rt, move || { drive(driver) }, move || { serve(device) });
+    Guest { driver, device }
 }
 
 /// Both guests run to their end.
-fn both<'a, R: Threads + Sync>(rt: &R, a: Guest<'a>, b: Guest<'a>) -> (Guest<'a>, Guest<'a>)
-    requires new { (a.turns ≡ 0) × (b.turns ≡ 0) }
-{
-    thread::join(
-        rt,
-        move ||
-            requires new { a.turns ≡ 0 }
-        { run(rt, a) },
-        move ||
-            requires new { b.turns ≡ 0 }
-        { run(rt, b) },
-    )
+fn both<'a, R: Threads + Sync>(rt: &R, a: Guest<'a>, b: Guest<'a>) -> (Guest<'a>, Guest<'a>) {
+    thread::join(rt, move || { run(rt, a) }, move || { run(rt, b) })
 }
 
-/// What is left of a guest.
-#[derive(Drop)]
-struct Left<'a> {
-    driver: Driver<'a, ListFabric>,
-    device: Device<ListFabric>,
-    /// Whether the driver ended, and a last turn of the device found nothing.
-    ended: bool,
-}
-
-/// The device, which is idle, makes turns until it finds nothing.
-fn finish<'a>(guest: Guest<'a>) -> Left<'a> {
-    let Guest {
-        driver,
-        device,
-        ended,
-        turns: _,
-    } = guest;
-    let mut device = device;
-    let nothing = empties(&mut device);
-    Left {
-        driver,
-        device,
-        ended: ended && nothing,
-    }
+/// Whether the driver ended and the device, which is idle then, comes to a turn that finds nothing.
+fn finishes(guest: &mut Guest) -> bool {
+    guest.driver.driver.is_over() && empties(&mut guest.device)
 }
 
 /// Makes turns until one finds nothing, and says whether one did.
-fn empties(device: &mut Device<ListFabric>) -> bool
-    requires ready { IsReady TURNS device.old }
-{
-    for turn in 0..FURTHER {
+fn empties(device: &mut Served) -> bool {
+    for _ in 0..FURTHER {
         match device.turn() {
-            Ok(vmx_device::Turn::Worked) => {}
-            Ok(_) => return true,
-            Err(_) => return false,
+            Ok(Some(vmx_device::Turn::Worked)) => {}
+            Ok(Some(_)) => return true,
+            Ok(None) | Err(_) => return false,
         }
     }
     false
 }
 
-/// How many copies a journal has, and how many of them got onto the link.
-fn sent(journal: &Journal) -> (usize, usize) {
-    let entries = journal.entries.as_slice();
-    let all = entries
-        .iter()
-        .filter(|entry| matches!(entry, Entry::Out { .. }))
-        .count();
-    let link = entries
-        .iter()
-        .filter(|entry| {
-            matches!(
-                entry,
-                Entry::Out {
-                    way: Way::Link { .. },
-                    ..
-                }
-            )
-        })
-        .count();
-    (all, link)
-}
-
-/// How many packets came to a journal, and how many of them came up.
-fn came(journal: &Journal) -> (usize, usize) {
-    let entries = journal.entries.as_slice();
-    let all = entries
-        .iter()
-        .filter(|entry| matches!(entry, Entry::In { .. }))
-        .count();
-    let up = entries
-        .iter()
-        .filter(|entry| matches!(
-            entry,
-            Entry::In {
-                fate: Fate::Up { .. },
-                ..
-            }
-        ))
-        .count();
-    (all, up)
-}
-
-/// Whether each copy of one guest has its entry, each packet on its link came to the other one, and what came up there was
-/// handed up.
-fn agree(from: &Left, to: &Left) -> bool {
-    let (copies, link) = sent(from.device.journal());
-    let (all, up) = came(to.device.journal());
-    copies == FRAMES as usize && all == link && up == to.driver.received().len()
-}
-
-/// Both guests run to their end, and their devices until they find nothing.
-fn finished<'a, R: Threads + Sync>(rt: &R, a: Guest<'a>, b: Guest<'a>) -> (Left<'a>, Left<'a>)
-    requires new { (a.turns ≡ 0) × (b.turns ≡ 0) }
-{
-    let (a, b) = both(rt, a, b);
-    (finish(a), finish(b))
+/// Whether each frame of one guest got onto its link and came to the other one, and what came up there was handed up.
+fn agree(from: &Guest, to: &Guest) -> bool {
+    let left = on_the_link(from.device.device.journal());
+    let journal = to.device.device.journal();
+    let up = to.driver.driver.received().len();
+    left == FRAMES as usize && came(journal) == left && came_up(journal) == up
 }
 
 #[test]
 fn two_guests_run_to_their_end_on_four_threads(rt: HostRuntime) -> Result<(), Fail> {
     let alloc = rt.alloc();
-    let plan = plan_of_two(alloc, FRAMES)?.ok_or("a plan that does not fit")?;
-    let (a, b) = guests_of(alloc, &plan)?.ok_or("a plan with too few guests")?;
-    let (a, b) = finished(&rt, a, b);
-    assert!(rt; a.ended && b.ended);
+    let plan = plan_of(alloc, FRAMES, List::new(alloc), FRAMES)?.ok_or("no plan")?;
+    let (a, b) = guests_of(alloc, &plan)?.ok_or("too few guests")?;
+    let (mut a, mut b) = both(&rt, a, b);
+    assert!(rt; finishes(&mut a) && finishes(&mut b));
     assert!(rt; agree(&a, &b) && agree(&b, &a));
     Ok(())
 }

@@ -1,8 +1,15 @@
-//! Two guests of a plan, with their drivers and devices joined by two links, over queue ends in memory: for the tests of vmx_thread_tests.
+//! Two guests of a plan, with their drivers and devices joined by two links, over queue ends in memory: what the tests and the
+//! small program that run a guest share.
 #![tactic(auto)]
 
+mod driven;
+mod far;
 mod guests;
 mod plans;
+mod served;
 
-pub use guests::{Guest, TURNS, guests_of};
-pub use plans::{MACS, plan_of_two};
+pub use driven::{Driven, driver_of};
+pub use far::{Far, MAX_PACKETS, links_of, packet_of};
+pub use guests::{Guest, INTERRUPTS, LINK_PACKETS, first_of, guests_of};
+pub use plans::{MACS, frame_to, plan_of};
+pub use served::{MAX_TURNS, Served, device_of};
