@@ -14,7 +14,6 @@ use Rattle.vmx_model.specs.Ranges.{fits_deed, fits_from, is_within, is_in_turn}
 use Rattle.vmx_model.specs.Totals.{records_of}
 use Rattle.vmx_serial_queues.specs.Small.{IsWithin}
 use Rattle.vmx_serial_seats.specs.Small.{IsSmall}
-use Rattle.vmx_serial_reference.specs.Early.{AreEarly}
 use Rattle.vmx_serial_reference.specs.Worlds.{empty_wire, IsOnTheWay}
 use Rattle.vmx_serial_seats.proofs.SmallLaws.{queues_in, small_activated}
 use Rattle.vmx_serial_queues.proofs.Made.{upto_more}

@@ -1,4 +1,4 @@
-use Rattle.std.proofs.Common.{◌≡◌, true, false, ◌∙◌, sym, ap, cc, absurd}
+use Rattle.std.proofs.Common.{◌≡◌, ◌∙◌, sym, ap}
 use Rattle.vmx_ends.specs.Transmit.{TxDriverView}
 use Rattle.vmx_txq.specs.Ends.{driver_view, device_view}
 use Rattle.vmx_ring_samples.proofs.tx.filled.Goals as goal
