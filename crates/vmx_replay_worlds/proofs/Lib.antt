@@ -1,0 +1,10 @@
+pub mod Lists
+pub mod Queues
+pub mod Noted
+pub mod Parts
+pub mod Links
+pub mod Out
+pub mod Moved
+pub mod In
+pub mod Started
+pub mod Linked
