@@ -159,6 +159,7 @@ next_keeps port n r s t left within others ready e h =
         plan = ap (λ (x : RunView). x.plan) h ∙ others.plan;
         reached = λ j away. ap (λ (x : RunView). x.reached j) h ∙ more_other port j s.reached away ∙ others.reached j away;
         passed = ap (λ (x : RunView). x.passed) h ∙ others.passed;
+        closings = ap (λ (x : RunView). x.closings) h ∙ others.closings;
       };
       ready = subst (IsReady r.plan) (sym world) (ready_does r.plan port o (action_in o k) s.world ready);
     }

@@ -9,7 +9,7 @@ use Rattle.vmx_model.specs.Serial.{World, Seat, closed, last_at, last_number, ro
 use Rattle.vmx_model.specs.Turns.{IsReady}
 use Rattle.vmx_model.proofs.Ready.{ready_at, closed_to, closed_all}
 use Rattle.vmx_plan_bounds.proofs.Lasts.{last_behind}
-use Rattle.vmx_replay_order.specs.Runs.{RunView, changes}
+use Rattle.vmx_replay_order.specs.Runs.{RunView, closes}
 use Rattle.vmx_replay_order.specs.Orders.{closes_all}
 use Rattle.vmx_replay_order.specs.Standing.{AreFrom, IsAt, Stands, StandFrom, StandBelow, IsOver, OthersStand}
 
@@ -66,16 +66,20 @@ over_last n port r e s = λ p is.
       capture = omega (arith, e, at, records);
     }
 
--- all guests are closed, one by one
-pub closed_next : (port : ℕ) (r s t : RunView) → s ≡ record r { world = record r.world { seats = closed_to port r.world.seats } } → t ≡ changes port closed s → t ≡ record r { world = record r.world { seats = closed_to (port + 1) r.world.seats } }
-closed_next port r s t e h = let one : suc port ≡ port + 1 = omega arith in h ∙ ap (changes port closed) e ∙ ap (λ (k : ℕ). record r { world = record r.world { seats = closed_to k r.world.seats } }) one
+-- the first k guests are closed
+abbrev pub first_closed : ℕ → RunView → RunView
+first_closed k r = record r { world = record r.world { seats = closed_to k r.world.seats }; closings = k }
+
+pub closed_next : (port : ℕ) (r s t : RunView) → s ≡ first_closed port r → t ≡ closes port s → t ≡ first_closed (port + 1) r
+closed_next port r s t e h = let one : suc port ≡ port + 1 = omega arith in h ∙ ap (closes port) e ∙ ap (λ (k : ℕ). record r { world = record r.world { seats = closed_to k r.world.seats }; closings = port + 1 }) one
 
 pub closed_ready : (plan : Plan) (k : ℕ) (w : World) → IsReady plan w → IsReady plan (record w { seats = closed_to k w.seats })
 closed_ready plan zero w r = r
 closed_ready plan (suc k) w r = ready_at plan k closed (record w { seats = closed_to k w.seats }) (closed_ready plan k w r)
 
-pub closed_whole : (k : ℕ) (r : RunView) → k ≡ length r.world.seats → record r { world = record r.world { seats = closed_to k r.world.seats } } ≡ closes_all r
-closed_whole k r e = ap (λ (ss : List Seat). record r { world = record r.world { seats = ss } }) (ap (λ (j : ℕ). closed_to j r.world.seats) e ∙ closed_all r.world.seats)
+pub closed_whole : (k : ℕ) (r : RunView) → k ≡ length r.world.seats → k ≡ length r.plan.guests → first_closed k r ≡ closes_all r
+closed_whole k r e f = ap (λ (ss : List Seat). record r { world = record r.world { seats = ss }; closings = k }) (ap (λ (j : ℕ). closed_to j r.world.seats) e ∙ closed_all r.world.seats)
+    ∙ ap (λ (j : ℕ). record r { world = record r.world { seats = map closed r.world.seats }; closings = j }) f
 
 -- the run closes all guests behind the last number
 pub run_is : (plan : Plan) (w : World) → w ≡ rounds plan (last_number plan.guests) (start plan) → record w { seats = map closed w.seats } ≡ serial_run plan

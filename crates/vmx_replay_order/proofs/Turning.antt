@@ -24,4 +24,5 @@ module _ (port n : ℕ) (r s t : RunView) (others : OthersBegun port r s) where
     plan = ap (λ (x : RunView). x.plan) e ∙ others.plan;
     reached = λ h away. ap (λ (x : RunView). x.reached h) e ∙ others.reached h away;
     passed = λ h away. ap (λ (x : RunView). x.passed h) e ∙ more_other port h s.passed away ∙ ap (λ (f : ℕ → ℕ). f h) others.passed;
+    closings = ap (λ (x : RunView). x.closings) e ∙ others.closings;
   }

@@ -1,5 +1,5 @@
 -- What the helpers of the serial order do to a run.
-use Rattle.std.specs.Prelude.{ℕ, map, Option, Some, None, slice_get}
+use Rattle.std.specs.Prelude.{ℕ, map, length, Option, Some, None, slice_get}
 use Rattle.vmx_model.specs.declared.plan.Plan.{Plan}
 use Rattle.vmx_model.specs.declared.guest.GuestPlan.{GuestPlan}
 use Rattle.vmx_model.specs.Plan.{captured}
@@ -37,4 +37,4 @@ sends_at port n r = record r { world = sent_in r.plan port n (slice_get r.plan.g
 
 -- all guests are closed
 abbrev pub closes_all : RunView → RunView
-closes_all r = record r { world = record r.world { seats = map closed r.world.seats } }
+closes_all r = record r { world = record r.world { seats = map closed r.world.seats }; closings = length r.plan.guests }

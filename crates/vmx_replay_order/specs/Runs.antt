@@ -13,7 +13,7 @@ use Rattle.vmx_model.specs.declared.sending.Sending.TheVariants as sending
 use Rattle.vmx_model.specs.Plan.{Captured, captured, verdict_on}
 use Rattle.vmx_model.specs.Totals.{wiring}
 use Rattle.vmx_model.specs.Wire.{wire_form, targets}
-use Rattle.vmx_model.specs.Serial.{Seat, World, Wire, Carried, where_it, at_number, is_wire, mac_of, noted, transmitted, poll, done}
+use Rattle.vmx_model.specs.Serial.{Seat, World, Wire, Carried, where_it, at_number, is_wire, mac_of, noted, transmitted, poll, done, closed}
 use Rattle.vmx_model.specs.Turns.{at_guest, put_out, pulls, pulled_on, next_on, comes_in, comes_up, IsEmptied}
 
 -- a run
@@ -25,6 +25,8 @@ pub record RunView : Type 0 where
   pub reached : ℕ → ℕ
   -- by a guest's port, the captured number to which it has come: so many of its frames were gone through, from the first one on
   pub passed : ℕ → ℕ
+  -- how many guests were closed, from the first port on
+  pub closings : ℕ
 
 -- a guest changes
 abbrev pub changes : ℕ → (Seat → Seat) → RunView → RunView
@@ -162,3 +164,9 @@ looks from to r = record r { world = looked r.plan from to r.world (next_on r.wo
 -- nothing waits but on links from this port
 abbrev pub ComesFrom : ℕ → World → Type 0
 ComesFrom from w = AllByRecursion (λ (l : Wire). l.from ≢ from → IsEmptied l) w.wires
+
+-- ------------------------------------------------------------ the end
+
+-- the guest at a port is closed, the next one in port order
+abbrev pub closes : ℕ → RunView → RunView
+closes port r = record r { world = at_guest port closed r.world; closings = r.closings + 1 }

@@ -52,12 +52,14 @@ pub record OthersStand (port : ℕ) (old new : RunView) : Type 0 where
   pub plan : new.plan ≡ old.plan
   pub reached : (h : ℕ) → h ≢ port → new.reached h ≡ old.reached h
   pub passed : (h : ℕ) → h ≢ port → new.passed h ≡ old.passed h
+  pub closings : new.closings ≡ old.closings
 
 -- the same where one guest has begun further actions
 pub record OthersBegun (port : ℕ) (old new : RunView) : Type 0 where
   pub plan : new.plan ≡ old.plan
   pub reached : (h : ℕ) → h ≢ port → new.reached h ≡ old.reached h
   pub passed : new.passed ≡ old.passed
+  pub closings : new.closings ≡ old.closings
 
 -- all guests have
 abbrev pub AreOver : RunView → Type 0

@@ -1,8 +1,7 @@
 //! The drivers and devices of a run with the links between them, as the serial order uses them.
 ghost use Rattle.std.specs.Prelude.{◌≡◌, ◌≢◌, ◌<◌, ◌≤◌, ◌+◌, true, length, take, OnOk, IfOk};
-ghost use Rattle.vmx_model.specs.Serial.{closed};
 ghost use Rattle.vmx_model.specs.Turns.{IsReady};
-ghost use Rattle.vmx_replay_order.specs.Runs.{RunView, changes, live_poll, up_at, is_polled, is_next, acts, puts, goes_to, looks, found, ComesFrom};
+ghost use Rattle.vmx_replay_order.specs.Runs.{RunView, changes, live_poll, up_at, is_polled, is_next, acts, puts, goes_to, looks, found, closes, ComesFrom};
 ghost use Rattle.vmx_replay_order.specs.Standing.{HasBegun, IsOver};
 ghost use Rattle.vmx_replay_order.specs.Short.{AreShort, MOST_ENTRIES};
 
@@ -12,7 +11,7 @@ use vmx_switch::Targets;
 /// All actors of a run. Each call is one step of one guest with the notes passed, and its contract is one equation: the run after it is
 /// a function of the run before. `AllocError` is for want of memory alone, and nothing is said of the run behind it.
 pub trait Actors {
-    /// The plan, the world as the model has it, and how far each guest has come.
+    /// The plan, the world as the model has it, how far each guest has come, and how many were closed.
     ghost run: { Self → RunView };
 
     /// Whether the next action of a guest's script is of this number, to which the guest has come.
@@ -63,12 +62,13 @@ pub trait Actors {
         ensures polls { OnOk result (run self.new ≡ changes port live_poll (run self.old)) }
         ensures count { IfOk result (λ count. count ≡ up_at port (run self.old)) };
 
-    /// A guest's driver, which has done its script and gone through its capture, is closed: it quiesces an active device, and the ends
-    /// of its queues meet.
+    /// The driver of the next guest in port order, which has done its script and gone through its capture, is closed: it quiesces an
+    /// active device, and the ends of its queues meet.
     fn close(&mut self, port: u32) -> Result<(), AllocError>
         requires port { port < length (run self.old).plan.guests }
+        requires next { (run self.old).closings ≡ port }
         requires over { IsOver port (run self.old) }
         requires ready { IsReady (run self.old).plan (run self.old).world }
         requires short { AreShort MOST_ENTRIES (run self.old).world }
-        ensures closes { OnOk result (run self.new ≡ changes port closed (run self.old)) };
+        ensures closes { OnOk result (run self.new ≡ closes port (run self.old)) };
 }

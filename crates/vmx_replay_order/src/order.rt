@@ -14,13 +14,16 @@ use std::alloc::AllocError;
 use vmx_model::Plan;
 use vmx_plan_bounds::last_number;
 
-/// The serial order of a plan, from guests that are activated on, to guests that are closed: it leaves the world of the model's serial
-/// run. `AllocError` comes from the actors alone.
+/// The serial order of a plan, from guests that are activated on, to guests that are all closed: it leaves the world of the model's
+/// serial run. `AllocError` comes from the actors alone.
 pub fn serial<A: Actors>(plan: &Plan, actors: &mut A) -> Result<(), AllocError>
     requires plan { (A.run actors.old).plan ≡ plan.now }
     requires start { (A.run actors.old).world ≡ start plan.now }
     requires fresh { (h : ℕ) → h < length plan.now.guests → ((A.run actors.old).reached h ≡ 0) × ((A.run actors.old).passed h ≡ 0) }
+    requires unclosed { (A.run actors.old).closings ≡ 0 }
     ensures run { OnOk result ((A.run actors.new).world ≡ serial_run plan.now) }
+    ensures plan { OnOk result ((A.run actors.new).plan ≡ plan.now) }
+    ensures closed { OnOk result ((A.run actors.new).closings ≡ length plan.now.guests) }
 {
     let guests = plan.guests.len() as u32;
     let last = last_number(plan);
@@ -39,6 +42,7 @@ fn round<A: Actors>(actors: &mut A, guests: u32, number: u32) -> Result<(), Allo
     ensures turns { OnOk result ((A.run actors.new).world ≡ turns (A.run actors.old).plan number guests (A.run actors.old).world) }
     ensures plan { OnOk result ((A.run actors.new).plan ≡ (A.run actors.old).plan) }
     ensures stand { OnOk result (StandAll (number + 1) (A.run actors.new)) }
+    ensures closings { OnOk result ((A.run actors.new).closings ≡ (A.run actors.old).closings) }
 {
     for port in 0..guests {
         turn(actors, port, number)?;
@@ -144,6 +148,7 @@ fn poll_until_empty<A: Actors>(actors: &mut A, port: u32) -> Result<(), AllocErr
 /// Every driver is closed, in port order.
 fn close_all<A: Actors>(actors: &mut A, guests: u32) -> Result<(), AllocError>
     requires guests { guests ≡ length (A.run actors.old).plan.guests }
+    requires unclosed { (A.run actors.old).closings ≡ 0 }
     requires over { AreOver (A.run actors.old) }
     requires ready { IsReady (A.run actors.old).plan (A.run actors.old).world }
     requires short { AreShort ENTRIES_AT_CLOSE (A.run actors.old).world }

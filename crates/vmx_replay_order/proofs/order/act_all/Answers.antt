@@ -13,7 +13,7 @@ pub loop-actors-init : goal.loop-actors-init
 loop-actors-init g c = let a = c.args in let r : RunView = g.A.Actors.run a.actors.now in let o : Option GuestPlan = slice_get r.plan.guests a.port in record {
   left = rest_begins a.port a.number (r.reached a.port) o r.world c.requires.stands.begun;
   within = within_begins a.number (r.reached a.port) o c.requires.stands.begun;
-  others = record { plan = refl; reached = λ h away. refl; passed = refl };
+  others = record { plan = refl; reached = λ h away. refl; passed = refl; closings = refl };
   short = short_more ENTRIES_AT_TURN (ENTRIES_AT_TURN + 2 * r.reached a.port) r.world (omega arith) c.requires.short;
   ready = c.requires.ready;
 }

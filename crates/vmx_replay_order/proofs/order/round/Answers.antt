@@ -14,6 +14,7 @@ pub loop-port-init : goal.loop-port-init
 loop-port-init g c = let a = c.args in let r : RunView = g.A.Actors.run a.actors.now in record {
   world = sym (turns_none r.plan a.number r.world);
   plan = refl;
+  closings = refl;
   ahead = λ h le lt. c.requires.stand h lt;
   behind = λ h lt. absurd (omega (arith, lt));
 }
@@ -32,6 +33,7 @@ loop-port-preserved g c = let a = c.args in let l = c.loop-port in let r : RunVi
     let s : RunView = g.A.Actors.run l.actors in let t : RunView = g.A.Actors.run c.turn.new.actors in record {
       world = e.turn ∙ ap (λ (p : Plan). turn p a.number l.port s.world) i.plan ∙ ap (turn r.plan a.number l.port) i.world ∙ sym (turns_more r.plan a.number l.port r.world);
       plan = e.others.plan ∙ i.plan;
+      closings = e.others.closings ∙ i.closings;
       ahead = from_next a.number l.port s t e.others i.ahead;
       behind = below_next (a.number + 1) l.port s t e.others e.stands i.behind;
     }

@@ -7,5 +7,6 @@ abbrev pub invariant-loop-number : goal.invariant-loop-number
 invariant-loop-number g l = record {
   world : (g.A.Actors.run l.actors).world ≡ rounds l.plan l.number (start l.plan);
   plan : (g.A.Actors.run l.actors).plan ≡ l.plan;
+  unclosed : (g.A.Actors.run l.actors).closings ≡ 0;
   stand : StandAll l.number (g.A.Actors.run l.actors);
 }
