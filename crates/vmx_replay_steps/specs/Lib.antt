@@ -1,0 +1,5 @@
+pub mod Between
+pub mod Polls
+pub mod Turns
+pub mod Commands
+pub mod Waits
