@@ -110,7 +110,7 @@ field_right f s e =
     let pseudo : pseudo_of (with_field f s w) s ≡ p = field_pseudo f s w e in
     let sum : segment_sum (with_field f s w) s ≡ z + w = field_sum f s w e in
     let all : ones (pseudo_of (with_field f s w) s + segment_sum (with_field f s w) s) ≡ 65535 =
-      (λ i. ones (pseudo i + sum i)) ∙ ap (λ (n : ℕ). ones n) (sym (add_assoc p z w)) ∙ ones_complement (p + z) in
+    (λ i. ones (pseudo i + sum i)) ∙ ap (λ (n : ℕ). ones n) (sym (add_assoc p z w)) ∙ ones_complement (p + z) in
     eq-eqb (ones (pseudo_of (with_field f s w) s + segment_sum (with_field f s w) s)) 65535 all
 
 filled_right_at : (f : List ℕ) (o : Option Segment) → segment f ≡ o → is_right_at (filled f) (segment (filled f)) ≡ is_some o

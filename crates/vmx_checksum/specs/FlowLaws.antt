@@ -10,7 +10,7 @@ use Rattle.vmx_frame.specs.declared.kinds.Ports.{Ports}
 use Rattle.vmx_frame.specs.declared.kinds.Flow.{Flow}
 use Rattle.vmx_frame.specs.declared.kinds.Flow.TheVariants.{NonIp, V4, V6}
 use Rattle.vmx_checksum.specs.declared.answer.Segment.{Segment}
-use Rattle.vmx_checksum.specs.Segment.{packet_at, has_ports, header_len, packet_len, HasHeader, segment_between, segment_by, segment}
+use Rattle.vmx_checksum.specs.Segment.{packet_at, has_ports, header_len, packet_len, segment_between, segment_by, segment}
 use Rattle.vmx_checksum.specs.Words.{put_word}
 use Rattle.vmx_checksum.specs.WordLaws.{put_word_length, put_word_front}
 
@@ -55,7 +55,7 @@ agrees_put f at w = record { len = sym (put_word_length f at w); front = sym (pu
 pub record IsReadable (flow : Flow) (packet : List ℕ) : Type 0 where
   pub least : 20 ≤ header_len flow packet
   pub most : header_len flow packet ≤ 60
-  pub has : HasHeader flow packet
+  pub long : 20 ≤ length packet
 
 v4_parts : (p : List ℕ) → is_v4 p ≡ true → (20 ≤ length p) × (20 ≤ v4_header_len p)
 v4_parts p h =
@@ -70,7 +70,7 @@ v4_if b p = cond b (V4 (v4_source p) (v4_target p) (ports_of (has_v4_ports p) p 
 
 v4_readable : (p : List ℕ) (b : Bool) → is_v4 p ≡ b → has_ports (v4_if b p) ≡ true → IsReadable (v4_if b p) p
 unfolding v4_if
-v4_readable p true e h = let parts = v4_parts p e in record { least = parts.1; most = omega arith; has = parts.0 }
+v4_readable p true e h = let parts = v4_parts p e in record { least = parts.1; most = omega arith; long = parts.0 }
 v4_readable p false e h = absurd (false≢true h)
 
 v4_header : (p : List ℕ) (b : Bool) → has_ports (v4_if b p) ≡ true → header_len (v4_if b p) p ≡ v4_header_len p
@@ -108,7 +108,7 @@ v6_header p false = refl
 
 v6_readable : (p : List ℕ) (b : Bool) → is_v6 p ≡ b → has_ports (v6_if b p) ≡ true → IsReadable (v6_if b p) p
 unfolding v6_if
-v6_readable p true e h = let parts = and_parts (nat_le 40 (length p)) (slice_index p 0 / 16 == 6) e in record { least = omega arith; most = omega arith; has = leb-true 40 (length p) parts.0 }
+v6_readable p true e h = let parts = and_parts (nat_le 40 (length p)) (slice_index p 0 / 16 == 6) e in record { least = omega arith; most = omega arith; long = omega (arith, leb-true 40 (length p) parts.0) }
 v6_readable p false e h = absurd (false≢true h)
 
 -- an IPv6 packet by what is read of it
@@ -180,6 +180,10 @@ place_least f = step (is_tagged f)
     step : (t : Bool) → (14 ≤ place_by t) × (place_by t ≤ 18)
     step true = (omega arith, omega arith)
     step false = (omega arith, omega arith)
+
+-- its packet is long enough for the header's lengths
+pub long_packet : (f : List ℕ) (at : ℕ) → at ≡ packet_at f → has_ports (flow_of f) ≡ true → 20 ≤ length (drop at f)
+long_packet f at e h = let header : IsReadable (flow_of f) (drop (packet_at f) f) = readable f h in subst (λ (k : ℕ). 20 ≤ length (drop k f)) (sym e) header.long
 
 pub tagged_same : (n : ℕ) (f g : List ℕ) → Agrees n f g → 14 ≤ n → is_tagged f ≡ is_tagged g
 unfolding is_tagged

@@ -31,12 +31,6 @@ packet_len NonIp packet = V6_HEADER_LEN + u16_at packet V6_PAYLOAD_LEN_AT
 packet_len (V4 source target ports) packet = u16_at packet V4_TOTAL_LEN_AT
 packet_len (V6 source target ports) packet = V6_HEADER_LEN + u16_at packet V6_PAYLOAD_LEN_AT
 
--- the fields that tell these lengths are there
-abbrev pub HasHeader : Flow → List ℕ → Type 0
-HasHeader NonIp packet = 40 ≤ length packet
-HasHeader (V4 source target ports) packet = 20 ≤ length packet
-HasHeader (V6 source target ports) packet = 40 ≤ length packet
-
 -- the packet ends within the frame, and has room for a TCP header behind its IP header (RFC 9293, 3.1)
 abbrev pub is_whole : ℕ → ℕ → ℕ → Bool
 is_whole l4 end len = nat_le end len && nat_le (l4 + TCP_HEADER_LEN) end

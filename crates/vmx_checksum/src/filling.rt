@@ -1,9 +1,9 @@
 //! The two halves of a TCP checksum: the driver's seed, and what the device makes of it.
 
-ghost use Rattle.std.specs.Prelude.{◌≡◌, ◌+◌, ◌-◌, ◌≤◌, List, ℕ, length, IfSome};
+ghost use Rattle.std.specs.Prelude.{◌≡◌, ◌≤◌, List, ℕ, length, true};
 ghost use Rattle.vmx_frame.specs.Internet.{flow_of};
 ghost use Rattle.vmx_checksum.specs.Segment.{segment};
-ghost use Rattle.vmx_checksum.specs.Checksum.{address_sum as address_sum_of, pseudo_sum as pseudo_sum_of, seeded, completed, filled, Marks, IsMarkOf, KeepsAllBut};
+ghost use Rattle.vmx_checksum.specs.Checksum.{address_sum as address_sum_of, pseudo_sum as pseudo_sum_of, seeded, completed, filled, is_right_at, Marks, IsMarkOf, KeepsAllBut};
 
 use crate::answer::Segment;
 use crate::marks::mark_of;
@@ -25,6 +25,7 @@ pub fn seed(frame: &mut [u8]) -> Option<TxMark>
     requires few { length frame.old ≤ MAX_FRAME }
     ensures frame { frame.new ≡ seeded frame.old }
     ensures mark { Marks (segment frame.old) result }
+    ensures alone { KeepsAllBut (segment frame.old) frame.old frame.new }
     ensures segment { segment frame.new ≡ segment frame.old }
     ensures flow { flow_of frame.new ≡ flow_of frame.old }
 {
@@ -44,8 +45,10 @@ pub fn fill(frame: &mut [u8], mark: &TxMark)
     requires few { length frame.old ≤ MAX_FRAME }
     requires mark { IsMarkOf (segment frame.old) mark.now }
     ensures frame { frame.new ≡ completed frame.old }
-    // The checksum of a frame that was seeded is filled in.
+    // A frame that was seeded has its checksum then, and it is right.
     ensures filled { (captured : List ℕ) → frame.old ≡ seeded captured → frame.new ≡ filled captured }
+    ensures right { (captured : List ℕ) → frame.old ≡ seeded captured
+        → is_right_at frame.new (segment frame.new) ≡ true }
     ensures alone { KeepsAllBut (segment frame.old) frame.old frame.new }
     ensures segment { segment frame.new ≡ segment frame.old }
     ensures flow { flow_of frame.new ≡ flow_of frame.old }
