@@ -1,0 +1,10 @@
+pub mod Ends
+pub mod PassTx
+pub mod PassRx
+pub mod AllTx
+pub mod AllRx
+pub mod PassLink
+pub mod Both
+pub mod PassRegs
+pub mod GoOn
+pub mod Even
