@@ -1,6 +1,6 @@
 #!/usr/bin/env python3
-"""Finds what is wrong with the pages of the repository: links that lead nowhere, crates without their page or its headings, pages and
-lines of prose that are too long. Prints a line for each, and ends with 1 where there is one.
+"""Finds what is wrong with the pages of the repository: links that lead nowhere, crates without their page or its headings, or that no
+layer of the architecture names, pages and lines of prose that are too long. Prints a line for each, and ends with 1 where there is one.
 
     python3 bench/pages.py        at the top of a checkout
 """
@@ -67,10 +67,13 @@ def lengths(page, text, top):
 
 
 def crates(top):
+    layers = set(re.findall(r"\w+", (top / "docs/ARCHITECTURE.md").read_text()))
     for line in (top / "crates.txt").read_text().splitlines():
         name = line.split("#")[0].split(":")[0].split()
         if not name:
             continue
+        if name[0] not in layers:
+            yield f"docs/ARCHITECTURE.md: {name[0]} is in no layer"
         page = top / "crates" / name[0] / "README.md"
         if not page.exists():
             yield f"crates.txt: {name[0]} has no page"
