@@ -3,9 +3,9 @@
 
 Times are those of the clock and of the processors, user and system; on a busy machine the second say more.
 
-Use: measure.py ROUNDS IN PROGRAM
+Use: measure.py ROUNDS IN PROGRAM YARDSTICK
 
-IN is a capture, PROGRAM a built vmxreplay. Beside it run cp, and tcpdump and editcap where they are installed. Each
+IN is a capture, PROGRAM a built vmxreplay, YARDSTICK the built pair.c. Beside them run cp, and tcpdump and editcap where they are installed. Each
 round writes to a fresh name in the folder of IN, and compares nothing but time: that the bytes are the same is checked
 once before, against IN. Memory is the greatest resident set of a run, from the system's
 account of the child process; it is never below that of this script, about 14 MB.
@@ -30,7 +30,7 @@ def run(words):
     return seconds, usage.ru_maxrss * 1024, usage.ru_utime + usage.ru_stime
 
 
-def main(rounds, source, program):
+def main(rounds, source, program, yardstick):
     out = source + ".out"
     programs = {"cp": ["cp", source, out]}
     if shutil.which("tcpdump"):
@@ -38,11 +38,14 @@ def main(rounds, source, program):
         programs["tcpdump"] = ["tcpdump", *root, "-r", source, "-w", out]
     if shutil.which("editcap"):
         programs["editcap"] = ["editcap", "-F", "pcap", source, out]
+    programs["yardstick"] = [yardstick, source, out]
     programs["vmxreplay"] = [program, "pair", source, out]
 
-    run(programs["vmxreplay"])
-    if subprocess.run(["cmp", "-s", source, out]).returncode != 0:
-        sys.exit("vmxreplay: OUT is not IN")
+    for name in ("yardstick", "vmxreplay"):
+        run(programs[name])
+        if subprocess.run(["cmp", "-s", source, out]).returncode != 0:
+            sys.exit(f"{name}: OUT is not IN")
+        os.unlink(out)
     seconds = {name: [] for name in programs}
     processor = {name: [] for name in programs}
     memory = {name: 0 for name in programs}
