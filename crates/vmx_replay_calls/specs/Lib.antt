@@ -1,0 +1,4 @@
+pub mod Selves
+pub mod Resting
+pub mod Commands
+pub mod Results
