@@ -41,7 +41,7 @@ use Rattle.vmx_replay_steps.specs.Commands.{stopped}
 use Rattle.vmx_replay_steps.specs.Waits.{KnowsCompleted}
 use Rattle.vmx_replay_steps.proofs.Standing.{is_off}
 use Rattle.vmx_replay_steps.proofs.Waits.{reaps_whole}
-use Rattle.vmx_replay_order.specs.Runs.{action_in, does}
+use Rattle.vmx_replay_runs.specs.Runs.{action_in, does}
 use Rattle.vmx_replay_chains.specs.Chains.{ActsOn, AnswersOn, FollowsOn, RenewsBy, due_at, due_in, due_now, is_activating}
 use Rattle.vmx_replay_calls.specs.Commands.{SendsStop, SendsUpdate, SendsActivation}
 use Rattle.vmx_replay_calls.specs.Resting.{Rests, RunRests, AllKeep}

@@ -16,7 +16,7 @@ use Rattle.vmx_device_looks.specs.Ports.{other}
 use Rattle.vmx_device_looks.specs.Queues.{all_at, all_set, get_lt}
 use Rattle.vmx_device_laws.proofs.PairingIn.{some_same}
 use Rattle.vmx_note_laws.specs.Links.{IsToldLink}
-use Rattle.vmx_replay_order.specs.Runs.{looked, ComesFrom}
+use Rattle.vmx_replay_runs.specs.Runs.{looked, ComesFrom}
 use Rattle.vmx_replay_worlds.specs.Guests.{GuestView, seat_of}
 use Rattle.vmx_replay_worlds.specs.Worlds.{out_parts, in_parts, world_of}
 use Rattle.vmx_replay_worlds.specs.Moves.{IsSameGuest, Waits, TakesOn, part_pulls}

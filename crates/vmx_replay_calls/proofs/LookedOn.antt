@@ -5,7 +5,7 @@ use Rattle.vmx_model.specs.declared.plan.Plan.{Plan}
 use Rattle.vmx_device_looks.specs.Queues.{all_at}
 use Rattle.vmx_device_laws.specs.Views.{DeviceView}
 use Rattle.vmx_replay_settled.specs.Settled.{BothKeep}
-use Rattle.vmx_replay_order.specs.Runs.{ComesFrom}
+use Rattle.vmx_replay_runs.specs.Runs.{ComesFrom}
 use Rattle.vmx_replay_worlds.specs.Guests.{GuestView}
 use Rattle.vmx_replay_worlds.specs.Worlds.{world_of}
 use Rattle.vmx_replay_worlds.proofs.Lists.{get_set, set_same, pair_at}

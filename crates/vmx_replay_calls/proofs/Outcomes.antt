@@ -7,7 +7,7 @@ use Rattle.vmx_model.specs.declared.plan.Plan.{Plan}
 use Rattle.vmx_model.specs.QueueSteps.{sent_before}
 use Rattle.vmx_model.specs.Turns.{next_on}
 use Rattle.vmx_model.specs.Wire.{posted_form}
-use Rattle.vmx_replay_order.specs.Runs.{live_poll, live_up, put_by, targets_of, looked}
+use Rattle.vmx_replay_runs.specs.Runs.{live_poll, live_up, put_by, targets_of, looked}
 use Rattle.vmx_replay_worlds.specs.Guests.{GuestView, seat_of}
 use Rattle.vmx_replay_worlds.specs.Worlds.{world_of}
 use Rattle.vmx_replay_worlds.specs.Moves.{KeepsLinks}

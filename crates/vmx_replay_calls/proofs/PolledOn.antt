@@ -5,7 +5,7 @@ use Rattle.vmx_model.specs.declared.plan.Plan.{Plan}
 use Rattle.vmx_device_looks.specs.Queues.{all_at}
 use Rattle.vmx_driver_steps.specs.Driver.{DriverView}
 use Rattle.vmx_replay_settled.specs.Settled.{BothKeep}
-use Rattle.vmx_replay_order.specs.Runs.{live_poll, count_up}
+use Rattle.vmx_replay_runs.specs.Runs.{live_poll, count_up}
 use Rattle.vmx_replay_worlds.specs.Guests.{GuestView, seat_of}
 use Rattle.vmx_replay_worlds.proofs.Lists.{get_map, set_same}
 use Rattle.vmx_replay_worlds.proofs.Moved.{guest_moves}

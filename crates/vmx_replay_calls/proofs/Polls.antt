@@ -11,7 +11,7 @@ use Rattle.vmx_device_laws.specs.Pairs.{tx_of, rx_of}
 use Rattle.vmx_driver_steps.specs.Progress.{in_hand}
 use Rattle.vmx_driver_steps.specs.Driver.{DriverView}
 use Rattle.vmx_note_laws.specs.Queues.{IsToldRx, IsBehindRx}
-use Rattle.vmx_replay_order.specs.Runs.{live_poll, live_up}
+use Rattle.vmx_replay_runs.specs.Runs.{live_poll, live_up}
 use Rattle.vmx_replay_worlds.specs.Guests.{GuestView, ends_by, ends_of, seat_of}
 use Rattle.vmx_replay_worlds.specs.Moves.{IsSameGuest}
 use Rattle.vmx_replay_steps.specs.Between.{IsThrough, WasDelivered}

@@ -30,7 +30,7 @@ use Rattle.vmx_driver_steps.specs.Driving.{PostsNext}
 use Rattle.vmx_actor_laws.specs.Joint.{AreCaughtUp}
 use Rattle.vmx_note_laws.specs.Each.{EachPasses}
 use Rattle.vmx_note_laws.specs.Queues.{PassesTx, IsBehindRx}
-use Rattle.vmx_replay_order.specs.Runs.{targets_of}
+use Rattle.vmx_replay_runs.specs.Runs.{targets_of}
 use Rattle.vmx_replay_worlds.specs.Guests.{GuestView}
 use Rattle.vmx_replay_worlds.specs.Worlds.{out_part, in_part, out_parts, in_parts, world_of}
 use Rattle.vmx_replay_worlds.specs.Moves.{IsSameGuest, noted_all, PutsOn}

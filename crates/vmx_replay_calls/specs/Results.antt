@@ -17,7 +17,7 @@ use Rattle.vmx_driver_steps.specs.Asking.{Waits}
 use Rattle.vmx_driver_steps.specs.Driving.{PassesOver}
 use Rattle.vmx_actor_laws.specs.Joint.{AreCaughtUp}
 use Rattle.vmx_trusted_turns.specs.Trusted.{IsTrusted}
-use Rattle.vmx_replay_order.specs.Runs.{live_poll, count_up, put_by, targets_of, looked, action_in, does}
+use Rattle.vmx_replay_runs.specs.Runs.{live_poll, count_up, put_by, targets_of, looked, action_in, does}
 use Rattle.vmx_replay_worlds.specs.Guests.{GuestView}
 use Rattle.vmx_replay_worlds.specs.Worlds.{world_of}
 use Rattle.vmx_replay_steps.specs.Turns.{queue_of}

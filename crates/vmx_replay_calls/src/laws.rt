@@ -8,7 +8,7 @@ ghost use Rattle.vmx_device_laws.specs.Steps.{TurnsOnce};
 ghost use Rattle.vmx_driver_steps.specs.declared.progress.Then.{Then};
 ghost use Rattle.vmx_driver_steps.specs.declared.progress.Due.TheVariants.{Action, Activate, Frame};
 ghost use Rattle.vmx_driver_steps.specs.Progress.{setup_now};
-ghost use Rattle.vmx_replay_order.specs.Runs.{ComesFrom};
+ghost use Rattle.vmx_replay_runs.specs.Runs.{ComesFrom};
 ghost use Rattle.vmx_replay_worlds.specs.Guests.{GuestView};
 ghost use Rattle.vmx_replay_worlds.specs.Worlds.{world_of};
 ghost use Rattle.vmx_replay_settled.specs.Linked.{HasLinksIn, IsLinkOn};

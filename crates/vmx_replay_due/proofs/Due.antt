@@ -24,7 +24,7 @@ use Rattle.vmx_driver_steps.specs.declared.progress.Due.TheVariants as due
 use Rattle.vmx_driver_steps.specs.Progress.{is_later, is_sendable, is_passed, passes_by, next_by, next_of, due_in, due_of}
 use Rattle.vmx_driver_steps.specs.Asking.{Waits}
 use Rattle.vmx_driver_steps.specs.Steps.{goes_there}
-use Rattle.vmx_replay_order.specs.Runs.{is_of, put_by, targets_by}
+use Rattle.vmx_replay_runs.specs.Runs.{is_of, put_by, targets_by}
 use Rattle.vmx_replay_due.specs.Standing.{HasGone, StandsAt, HasActed, is_action, is_frame, is_sent}
 use Rattle.vmx_replay_due.proofs.Going.{place_grows, place_taken, sent_goes, goes_sent, goes_nowhere, goes_when, sent_past}
 

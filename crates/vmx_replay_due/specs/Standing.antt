@@ -9,7 +9,7 @@ use Rattle.vmx_driver_steps.specs.declared.progress.Due.{Due}
 use Rattle.vmx_driver_steps.specs.declared.progress.Due.TheVariants as due
 use Rattle.vmx_driver_steps.specs.Progress.{passes, IsUnderway}
 use Rattle.vmx_driver_steps.specs.Asking.{Waits}
-use Rattle.vmx_replay_order.specs.Standing.{AreFrom}
+use Rattle.vmx_replay_runs.specs.Standing.{AreFrom}
 
 -- a driver has gone through the frames below number n: before its next frame go those of each queue that go before number n, and no others
 abbrev pub HasGone : ℕ → GuestPlan → ℕ → Type 0

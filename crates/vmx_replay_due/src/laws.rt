@@ -13,7 +13,7 @@ ghost use Rattle.vmx_driver_steps.specs.declared.progress.Progress.{Progress as 
 ghost use Rattle.vmx_driver_steps.specs.declared.progress.Due.TheVariants.{Nothing};
 ghost use Rattle.vmx_driver_steps.specs.Progress.{due_of};
 ghost use Rattle.vmx_driver_steps.specs.Driving.{PassesOver};
-ghost use Rattle.vmx_replay_order.specs.Runs.{is_of, put_by, targets_by};
+ghost use Rattle.vmx_replay_runs.specs.Runs.{is_of, put_by, targets_by};
 ghost use Rattle.vmx_replay_due.specs.Standing.{HasGone, StandsAt, HasActed, is_action, is_frame, is_sent};
 
 /// What is due with a driver that stands at a number tells of the serial order: whether its next action is of this number; and, where

@@ -12,14 +12,15 @@ use Rattle.vmx_model.proofs.Lists.{all_weaker}
 use Rattle.vmx_model.proofs.Ready.{ready_at}
 use Rattle.vmx_plan_bounds.specs.Numbers.{InOrder}
 use Rattle.vmx_plan_bounds.proofs.Scripts.{script_in_order}
-use Rattle.vmx_replay_order.specs.Runs.{RunView, action_in, next_action, is_of, is_next, does, acts}
+use Rattle.vmx_replay_runs.specs.Runs.{RunView, action_in, next_action, is_of, is_next, does, acts}
 use Rattle.vmx_model.specs.declared.limits.TheConstants.{MAX_ACTIONS}
-use Rattle.vmx_replay_order.specs.Short.{AreShort}
+use Rattle.vmx_replay_runs.specs.Short.{AreShort}
 use Rattle.vmx_replay_order.proofs.Short.{short_more, short_does}
 use Rattle.vmx_replay_order.specs.Orders.{acted_by}
-use Rattle.vmx_replay_order.specs.Standing.{AreBefore, AreFrom, IsAt, OthersBegun}
+use Rattle.vmx_replay_runs.specs.Standing.{AreBefore, AreFrom, IsAt, OthersBegun}
 use Rattle.vmx_replay_order.proofs.Scripts.{acts_left, acted_is, acts_next, acts_over, drop_order}
-use Rattle.vmx_replay_order.proofs.Guests.{at_twice, at_same, at_stays, more_here, more_other}
+use Rattle.vmx_replay_order.proofs.Guests.{at_twice, at_same, at_stays}
+use Rattle.vmx_replay_runs.proofs.Counts.{more_here, more_other}
 
 -- the actions of a number that are left to the guest at a port
 abbrev pub rest_of : ℕ → ℕ → Option GuestPlan → ℕ → World → World

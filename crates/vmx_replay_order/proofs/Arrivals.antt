@@ -1,11 +1,11 @@
 -- A copy that reaches its target, and the links that are left.
-use Rattle.std.proofs.Common.{◌≡◌, ◌≢◌, ℕ, zero, suc, ◌+◌, ◌<◌, Bool, true, false, true≢false, List, [], ◌∷◌, length, take, get_or, refl, ap, sym, ◌∙◌, arith, nat_eq, Option, Some, None, if◌then◌else◌}
+use Rattle.std.proofs.Common.{◌≡◌, ◌≢◌, ℕ, Bool, true, false, true≢false, List, [], ◌∷◌, refl, ap, sym, ◌∙◌, arith, nat_eq, Option, Some, None, if◌then◌else◌}
 use Rattle.std.specs.Prelude.{is_some, ◌&&◌}
-use Rattle.std.specs.List.{fold, AllByRecursion}
+use Rattle.std.specs.List.{AllByRecursion}
 use Rattle.std.proofs.lemmas.Bool.Decides.{nat_tests}
 use Rattle.vmx_model.specs.Serial.{World, Seat, Wire, Carried, where_it, is_wire}
 use Rattle.vmx_model.specs.Turns.{pulls, next_on, IsEmptied, AreEmptied}
-use Rattle.vmx_replay_order.specs.Runs.{RunView, changes, looks, looked, found, ComesFrom}
+use Rattle.vmx_replay_runs.specs.Runs.{RunView, changes, looks, looked, found, ComesFrom}
 use Rattle.vmx_replay_order.specs.Orders.{polled_due, arrives, arrives_by}
 use Rattle.vmx_replay_order.proofs.Guests.{at_twice}
 

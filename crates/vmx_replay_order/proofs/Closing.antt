@@ -1,5 +1,5 @@
 -- How far the guests stand from their first number to their last, and the end of the run.
-use Rattle.std.proofs.Common.{◌≡◌, ◌≢◌, ℕ, zero, suc, ◌+◌, ◌<◌, ◌≤◌, max, List, [], ◌∷◌, length, length-drop, map, drop, refl, ap, sym, ◌∙◌, arith, subst, Some, inl, inr}
+use Rattle.std.proofs.Common.{◌≡◌, ◌≢◌, ℕ, zero, suc, ◌+◌, ◌<◌, ◌≤◌, max, List, [], ◌∷◌, length, length-drop, map, drop, refl, ap, sym, ◌∙◌, arith, subst, inl, inr}
 use Rattle.std.specs.List.{slice_get}
 use Rattle.std.proofs.lemmas.Bool.Decides.{eqb_tells}
 use Rattle.vmx_model.specs.declared.plan.Plan.{Plan}
@@ -9,9 +9,9 @@ use Rattle.vmx_model.specs.Serial.{World, Seat, closed, last_at, last_number, ro
 use Rattle.vmx_model.specs.Turns.{IsReady}
 use Rattle.vmx_model.proofs.Ready.{ready_at, closed_to, closed_all}
 use Rattle.vmx_plan_bounds.proofs.Lasts.{last_behind}
-use Rattle.vmx_replay_order.specs.Runs.{RunView, closes}
+use Rattle.vmx_replay_runs.specs.Runs.{RunView, closes}
 use Rattle.vmx_replay_order.specs.Orders.{closes_all}
-use Rattle.vmx_replay_order.specs.Standing.{AreFrom, IsAt, Stands, StandFrom, StandBelow, IsOver, OthersStand}
+use Rattle.vmx_replay_runs.specs.Standing.{AreFrom, IsAt, Stands, StandFrom, StandBelow, IsOver, OthersStand}
 
 -- ------------------------------------------------------------ the start
 

@@ -1,5 +1,5 @@
 -- A frame that is put out on the links to its targets, and then taken by them one by one, is sent as the serial run sends it.
-use Rattle.std.proofs.Common.{◌≡◌, ◌≢◌, ℕ, ◌<◌, Bool, List, [], ◌∷◌, length, refl, ap, sym, ◌∙◌, arith, All, Option, Some, None}
+use Rattle.std.proofs.Common.{◌≡◌, ◌≢◌, ℕ, ◌<◌, List, [], ◌∷◌, length, refl, ap, sym, ◌∙◌, arith, All, Option, Some, None}
 use Rattle.std.specs.List.{fold, slice_get, AllByRecursion}
 use Rattle.std.proofs.lemmas.List.Elements.{All-nil}
 use Rattle.vmx_switch.specs.Laws.{targets_below, targets_other}
@@ -13,7 +13,7 @@ use Rattle.vmx_model.specs.Lists.{Rises}
 use Rattle.vmx_model.specs.Totals.{wiring, macs_of}
 use Rattle.vmx_model.specs.Wire.{wire_form, targets}
 use Rattle.vmx_model.specs.Plan.{Captured, captured, verdict_on}
-use Rattle.vmx_model.specs.Serial.{World, Wire, Carried, where_it, is_wire, carried, transmitted, reaches, spread, sent_by, sends, turn_of}
+use Rattle.vmx_model.specs.Serial.{World, Carried, is_wire, transmitted, reaches, spread, sent_by, sends, turn_of}
 use Rattle.vmx_model.specs.Turns.{pushes, put_out, next_on, at_guest, AreEmptied, HasWire, AreApart, IsReady}
 use Rattle.vmx_model.proofs.Lists.{by_recursion}
 use Rattle.vmx_model.proofs.Fates.{targets_rise}
@@ -21,7 +21,7 @@ use Rattle.vmx_model.proofs.Turns.{one_copy, all_later, reaches_empties}
 use Rattle.vmx_model.proofs.Looks.{next_here, next_outs, all_has_kept}
 use Rattle.vmx_model.proofs.Ready.{ready_at, has_links}
 use Rattle.vmx_plan_bounds.proofs.Few.{ports_of_targets}
-use Rattle.vmx_replay_order.specs.Runs.{RunView, one_more, put_to, put_by, put_in, targets_of, targets_by, targets_in, captured_in, puts, goes_to, ComesFrom}
+use Rattle.vmx_replay_runs.specs.Runs.{RunView, one_more, put_to, put_by, put_in, targets_of, targets_by, targets_in, captured_in, puts, goes_to, ComesFrom}
 use Rattle.vmx_replay_order.specs.Orders.{arrives, arrives_by, acted_by, sent_in, sends_at}
 use Rattle.vmx_replay_order.proofs.Arrivals.{others_emptied, comes_ready}
 

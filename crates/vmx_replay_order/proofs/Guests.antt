@@ -1,10 +1,8 @@
--- One guest of all, and the counts of guests.
-use Rattle.std.proofs.Common.{◌≡◌, ◌≢◌, ℕ, zero, suc, ◌+◌, ◌<◌, ◌≤◌, List, [], ◌∷◌, length, refl, ap, sym, arith, Some, None, get_or, inl, inr}
+-- One guest of all.
+use Rattle.std.proofs.Common.{◌≡◌, ℕ, zero, suc, List, [], ◌∷◌, refl, ap, Some}
 use Rattle.std.specs.Option.{option_map}
 use Rattle.std.specs.List.{slice_get}
-use Rattle.std.proofs.lemmas.Bool.Decides.{eqb_tells}
 use Rattle.vmx_model.specs.Serial.{at_number}
-use Rattle.vmx_replay_order.specs.Runs.{one_more}
 
 -- ------------------------------------------------------------ one element
 
@@ -27,11 +25,3 @@ pub get_at : {X : Type 0} (n : ℕ) (f : X → X) (xs : List X) → slice_get (a
 get_at n f [] = refl
 get_at zero f (x ∷ xs) = refl
 get_at (suc n) f (x ∷ xs) = get_at n f xs
-
--- ------------------------------------------------------------ counts
-
-pub more_here : (port : ℕ) (counts : ℕ → ℕ) → one_more port counts port ≡ counts port + 1
-more_here port counts = let self = eqb_tells port port in elim self [ inl w ↦ rw w.0 refl | inr w ↦ absurd (w.1 refl) ]
-
-pub more_other : (port h : ℕ) (counts : ℕ → ℕ) → h ≢ port → one_more port counts h ≡ counts h
-more_other port h counts away = elim (eqb_tells h port) [ inl w ↦ absurd (away w.1) | inr w ↦ rw w.0 refl ]

@@ -6,7 +6,7 @@ use Rattle.std.proofs.lemmas.List.{nil_from_length}
 use Rattle.vmx_model.specs.Serial.{Seat, at_number, poll, pending, drained, emptied}
 use Rattle.vmx_model.specs.PollSteps.{drained_poll, emptied_stays, poll_nothing, poll_less}
 use Rattle.vmx_model.specs.Turns.{comes_up}
-use Rattle.vmx_replay_order.specs.Runs.{RunView, changes, live_poll, live_up, count_up, up_at, due_in}
+use Rattle.vmx_replay_runs.specs.Runs.{RunView, changes, live_poll, live_up, count_up, up_at, due_in}
 use Rattle.vmx_replay_order.specs.Orders.{polled_due}
 use Rattle.vmx_replay_order.proofs.Guests.{at_twice, at_same, at_stays, get_at}
 

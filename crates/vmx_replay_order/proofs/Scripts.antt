@@ -6,7 +6,7 @@ use Rattle.vmx_model.specs.declared.guest.GuestPlan.{GuestPlan}
 use Rattle.vmx_model.specs.declared.deeds.Action.{Action}
 use Rattle.vmx_model.specs.Serial.{Seat, acted, done}
 use Rattle.vmx_plan_bounds.specs.Numbers.{InOrder}
-use Rattle.vmx_replay_order.specs.Standing.{AreBefore}
+use Rattle.vmx_replay_runs.specs.Standing.{AreBefore}
 
 -- the actions of a number among those left, in order
 abbrev pub acts_left : ℕ → GuestPlan → ℕ → List Action → Seat → Seat

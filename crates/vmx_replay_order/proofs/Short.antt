@@ -17,14 +17,14 @@ use Rattle.vmx_model.specs.declared.sending.Sending.TheVariants as sending
 use Rattle.vmx_model.specs.Plan.{Captured, captured, verdict_on, quiesce_dev, reset_dev, update_rx_mode, update_mac_filters, update_vlan_filters, update_rssidt, changed}
 use Rattle.vmx_model.specs.Totals.{wiring}
 use Rattle.vmx_model.specs.Wire.{wire_form, targets}
-use Rattle.vmx_model.specs.Serial.{Seat, World, Carried, at_number, poll, polls, pending, emptied, drained, quieted, quiet_setting, active_setting, activated, set_command, done, acted, arrived, polled_if, noted, closed, transmitted, reaches, spread, sent_by, sends, turn, turn_of, turns, rounds, start, seats_from, pushed_on, mac_of}
+use Rattle.vmx_model.specs.Serial.{Seat, World, Carried, at_number, quieted, quiet_setting, active_setting, activated, set_command, done, acted, arrived, polled_if, noted, closed, transmitted, reaches, spread, sent_by, sends, turn, turn_of, turns, rounds, start, seats_from, pushed_on, mac_of}
 use Rattle.vmx_model.specs.Turns.{at_guest, put_out, next_on, pulled_on}
 use Rattle.vmx_model.proofs.Lists.{all_weaker}
 use Rattle.vmx_model.proofs.Entries.{emptied_entries, drained_entries}
 use Rattle.vmx_model.proofs.Ready.{closed_to}
-use Rattle.vmx_replay_order.specs.Runs.{RunView, does, acts, put_to, put_by, put_in, puts, captured_in, targets_of}
+use Rattle.vmx_replay_runs.specs.Runs.{RunView, does, acts, put_to, put_by, put_in, puts, captured_in, targets_of}
 use Rattle.vmx_replay_order.specs.Orders.{acted_by, arrives, arrives_by}
-use Rattle.vmx_replay_order.specs.Short.{AreShort, ENTRIES_OF_ACTIONS, ENTRIES_OF_FRAME, ENTRIES_OF_TURN, ENTRIES_OF_ROUND}
+use Rattle.vmx_replay_runs.specs.Short.{AreShort, ENTRIES_OF_ACTIONS, ENTRIES_OF_FRAME, ENTRIES_OF_TURN, ENTRIES_OF_ROUND}
 use Rattle.vmx_plan_bounds.proofs.Few.{filter_few, guests_few, targets_few}
 
 -- ------------------------------------------------------------ lists of guests

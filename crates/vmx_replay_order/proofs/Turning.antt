@@ -3,10 +3,10 @@ use Rattle.std.proofs.Common.{◌≡◌, ℕ, ◌+◌, ap, ap₂, sym, ◌∙◌
 use Rattle.std.specs.List.{slice_get}
 use Rattle.vmx_model.specs.declared.plan.Plan.{Plan}
 use Rattle.vmx_model.specs.Serial.{World, turn}
-use Rattle.vmx_replay_order.specs.Runs.{RunView}
+use Rattle.vmx_replay_runs.specs.Runs.{RunView}
 use Rattle.vmx_replay_order.specs.Orders.{acted_by, sent_in, sends_at}
-use Rattle.vmx_replay_order.specs.Standing.{IsAt, HasBegun, Stands, OthersBegun, OthersStand}
-use Rattle.vmx_replay_order.proofs.Guests.{more_here, more_other}
+use Rattle.vmx_replay_runs.specs.Standing.{IsAt, HasBegun, Stands, OthersBegun, OthersStand}
+use Rattle.vmx_replay_runs.proofs.Counts.{more_here, more_other}
 use Rattle.vmx_replay_order.proofs.Frames.{turn_is}
 
 module _ (port n : ℕ) (r s t : RunView) (others : OthersBegun port r s) where

@@ -1,4 +1,1 @@
-pub mod Runs
-pub mod Standing
 pub mod Orders
-pub mod Short

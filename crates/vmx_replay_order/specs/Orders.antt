@@ -5,7 +5,7 @@ use Rattle.vmx_model.specs.declared.guest.GuestPlan.{GuestPlan}
 use Rattle.vmx_model.specs.Plan.{captured}
 use Rattle.vmx_model.specs.Serial.{Seat, World, Carried, where_it, at_number, is_wire, mac_of, arrived, polled_if, acted, sends, closed}
 use Rattle.vmx_model.specs.Turns.{at_guest, pulls, pulled_on, next_on}
-use Rattle.vmx_replay_order.specs.Runs.{RunView, is_due, one_more}
+use Rattle.vmx_replay_runs.specs.Runs.{RunView, is_due, one_more}
 
 -- a guest's driver polls until nothing comes, where it is due
 abbrev pub polled_due : ℕ → Seat → Seat

@@ -1,9 +1,9 @@
 //! The drivers and devices of a run with the links between them, as the serial order uses them.
 ghost use Rattle.std.specs.Prelude.{◌≡◌, ◌≢◌, ◌<◌, ◌≤◌, ◌+◌, true, length, take, OnOk, IfOk};
 ghost use Rattle.vmx_model.specs.Turns.{IsReady};
-ghost use Rattle.vmx_replay_order.specs.Runs.{RunView, changes, live_poll, up_at, is_polled, is_next, acts, puts, goes_to, looks, found, closes, ComesFrom};
-ghost use Rattle.vmx_replay_order.specs.Standing.{HasBegun, IsOver};
-ghost use Rattle.vmx_replay_order.specs.Short.{AreShort, MOST_ENTRIES};
+ghost use Rattle.vmx_replay_runs.specs.Runs.{RunView, changes, live_poll, up_at, is_polled, is_next, acts, puts, goes_to, looks, found, closes, ComesFrom};
+ghost use Rattle.vmx_replay_runs.specs.Standing.{HasBegun, IsOver};
+ghost use Rattle.vmx_replay_runs.specs.Short.{AreShort, MOST_ENTRIES};
 
 use std::alloc::AllocError;
 use vmx_switch::Targets;

@@ -1,13 +1,13 @@
 //! The serial order: number by number, and in port order each guest's actions of that number, then its frame to its targets one by
 //! one; at the end each driver is closed.
-ghost use Rattle.std.specs.Prelude.{◌≡◌, ◌≢◌, ℕ, ◌<◌, ◌≤◌, ◌+◌, All, length, fold, Some, slice_get, OnOk};
+ghost use Rattle.std.specs.Prelude.{◌≡◌, ◌≢◌, ℕ, ◌<◌, ◌≤◌, ◌+◌, All, length, fold, slice_get, OnOk};
 ghost use Rattle.vmx_model.specs.Serial.{drained, turn as turn_of, turns, start, serial_run};
 ghost use Rattle.vmx_model.specs.Turns.{IsReady};
-ghost use Rattle.vmx_replay_order.specs.Runs.{changes, ComesFrom};
+ghost use Rattle.vmx_replay_runs.specs.Runs.{changes, ComesFrom};
 ghost use Rattle.vmx_replay_order.specs.Orders.{polled_due, arrives, acted_by, sends_at, closes_all};
 ghost use Rattle.vmx_switch.specs.declared.answer.TheConstants.{MAX_PORTS};
-ghost use Rattle.vmx_replay_order.specs.Short.{AreShort, ENTRIES_AT_ROUND, ENTRIES_AT_TURN, ENTRIES_AT_FRAME, ENTRIES_AT_ARRIVALS, ENTRIES_AT_CLOSE, MOST_ENTRIES};
-ghost use Rattle.vmx_replay_order.specs.Standing.{HasBegun, Stands, StandAll, OthersStand, OthersBegun, AreOver};
+ghost use Rattle.vmx_replay_runs.specs.Short.{AreShort, ENTRIES_AT_ROUND, ENTRIES_AT_TURN, ENTRIES_AT_FRAME, ENTRIES_AT_ARRIVALS, ENTRIES_AT_CLOSE, MOST_ENTRIES};
+ghost use Rattle.vmx_replay_runs.specs.Standing.{HasBegun, Stands, StandAll, OthersStand, OthersBegun, AreOver};
 
 use crate::actors::Actors;
 use std::alloc::AllocError;

@@ -9,7 +9,7 @@ use Rattle.vmx_model.specs.declared.journal.Entry.{Entry}
 use Rattle.vmx_model.specs.Serial.{Wire, Seat, at_number, transmitted}
 use Rattle.vmx_model.specs.Turns.{at_guest}
 use Rattle.vmx_device_looks.specs.Links.{PutsFrame}
-use Rattle.vmx_replay_order.specs.Runs.{put_to}
+use Rattle.vmx_replay_runs.specs.Runs.{put_to}
 use Rattle.vmx_replay_worlds.specs.Guests.{GuestView, seat_of}
 use Rattle.vmx_replay_worlds.specs.Worlds.{out_part, in_part, out_parts, in_parts, outs_of, ins_of, wires_by, world_of}
 use Rattle.vmx_replay_worlds.specs.Ports.{IsAtPort, AreAtPorts, HaveRoom}

@@ -19,7 +19,7 @@ ghost use Rattle.vmx_replay_worlds.specs.Ports.{AreAtPorts, HasAll, Lies, IsLink
 ghost use Rattle.vmx_replay_worlds.specs.Starts.{AreNewGuests, started};
 ghost use Rattle.vmx_replay_worlds.specs.Notes.{DriverNotes, DeviceNotes};
 ghost use Rattle.vmx_replay_worlds.specs.Moves.{IsSameGuest, MovesOne, PutsOn, Waits, TakesOn};
-ghost use Rattle.vmx_replay_order.specs.Runs.{put_to};
+ghost use Rattle.vmx_replay_runs.specs.Runs.{put_to};
 
 /// Where one guest moved and its links are as before, the world is as before but for its seat.
 pub fn a_guest_moves()

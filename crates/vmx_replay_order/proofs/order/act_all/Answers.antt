@@ -3,9 +3,9 @@ use Rattle.std.specs.List.{slice_get}
 use Rattle.vmx_model.specs.declared.plan.Plan.{Plan}
 use Rattle.vmx_model.specs.declared.guest.GuestPlan.{GuestPlan}
 use Rattle.vmx_model.specs.Turns.{IsReady}
-use Rattle.vmx_replay_order.specs.Runs.{RunView}
+use Rattle.vmx_replay_runs.specs.Runs.{RunView}
 use Rattle.vmx_replay_order.proofs.Actions.{acting_in, rest_begins, rest_ends, within_begins, within_ends, next_less, next_keeps, acting_few, acts_short}
-use Rattle.vmx_replay_order.specs.Short.{ENTRIES_AT_TURN, MOST_ENTRIES}
+use Rattle.vmx_replay_runs.specs.Short.{ENTRIES_AT_TURN, MOST_ENTRIES}
 use Rattle.vmx_replay_order.proofs.Short.{short_more}
 use Rattle.vmx_replay_order.proofs.order.act_all.Goals as goal
 

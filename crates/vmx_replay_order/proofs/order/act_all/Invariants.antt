@@ -1,9 +1,9 @@
 use Rattle.std.proofs.Common.{◌≡◌, ◌+◌, ◌*◌}
 use Rattle.std.specs.List.{slice_get}
 use Rattle.vmx_model.specs.Turns.{IsReady}
-use Rattle.vmx_replay_order.specs.Short.{AreShort, ENTRIES_AT_TURN}
+use Rattle.vmx_replay_runs.specs.Short.{AreShort, ENTRIES_AT_TURN}
 use Rattle.vmx_replay_order.specs.Orders.{acted_by}
-use Rattle.vmx_replay_order.specs.Standing.{OthersBegun}
+use Rattle.vmx_replay_runs.specs.Standing.{OthersBegun}
 use Rattle.vmx_replay_order.proofs.Actions.{rest_of, many_left, Within}
 use Rattle.vmx_replay_order.proofs.order.act_all.Given as goal
 

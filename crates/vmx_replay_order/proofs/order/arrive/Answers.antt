@@ -1,6 +1,6 @@
 use Rattle.std.proofs.Common.{◌∙◌, ◌<◌, ap, sym, length, subst}
 use Rattle.vmx_model.specs.declared.plan.Plan.{Plan}
-use Rattle.vmx_replay_order.specs.Runs.{RunView}
+use Rattle.vmx_replay_runs.specs.Runs.{RunView}
 use Rattle.vmx_replay_order.proofs.Arrivals.{arrived_one, arrived_none}
 use Rattle.vmx_replay_order.proofs.order.arrive.Goals as goal
 

@@ -1,8 +1,8 @@
 use Rattle.std.proofs.Common.{◌∙◌, ◌+◌, ◌<◌, ◌≢◌, ℕ, ap, sym, arith, get_or, length, subst}
 use Rattle.std.proofs.lemmas.List.Sums.{fold_more}
 use Rattle.vmx_model.specs.declared.plan.Plan.{Plan}
-use Rattle.vmx_replay_order.specs.Runs.{RunView, ComesFrom}
-use Rattle.vmx_replay_order.specs.Short.{AreShort, ENTRIES_AT_ARRIVALS, MOST_ENTRIES}
+use Rattle.vmx_replay_runs.specs.Runs.{RunView, ComesFrom}
+use Rattle.vmx_replay_runs.specs.Short.{AreShort, ENTRIES_AT_ARRIVALS, MOST_ENTRIES}
 use Rattle.vmx_replay_order.specs.Orders.{arrives}
 use Rattle.vmx_replay_order.proofs.Short.{short_more, short_arrives}
 use Rattle.vmx_replay_order.proofs.Arrivals.{comes_on}

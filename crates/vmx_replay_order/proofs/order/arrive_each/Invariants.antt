@@ -1,7 +1,7 @@
 use Rattle.std.proofs.Common.{◌≡◌, ◌+◌, take}
 use Rattle.std.specs.List.{fold}
-use Rattle.vmx_replay_order.specs.Runs.{ComesFrom}
-use Rattle.vmx_replay_order.specs.Short.{AreShort, ENTRIES_AT_ARRIVALS}
+use Rattle.vmx_replay_runs.specs.Runs.{ComesFrom}
+use Rattle.vmx_replay_runs.specs.Short.{AreShort, ENTRIES_AT_ARRIVALS}
 use Rattle.vmx_replay_order.specs.Orders.{arrives}
 use Rattle.vmx_replay_order.proofs.order.arrive_each.Given as goal
 

@@ -1,10 +1,10 @@
 use Rattle.std.proofs.Common.{ℕ, ◌+◌, ◌<◌, ◌∙◌, ap, sym, arith, subst, length}
 use Rattle.vmx_model.specs.Turns.{IsReady}
 use Rattle.vmx_model.proofs.Ready.{closed_to}
-use Rattle.vmx_replay_order.specs.Runs.{RunView}
-use Rattle.vmx_replay_order.specs.Standing.{IsOver}
-use Rattle.vmx_replay_order.proofs.Closing.{first_closed, closed_next, closed_ready, closed_whole}
-use Rattle.vmx_replay_order.specs.Short.{AreShort, ENTRIES_AT_CLOSE, MOST_ENTRIES}
+use Rattle.vmx_replay_runs.specs.Runs.{RunView}
+use Rattle.vmx_replay_runs.specs.Standing.{IsOver}
+use Rattle.vmx_replay_order.proofs.Closing.{closed_next, closed_ready, closed_whole}
+use Rattle.vmx_replay_runs.specs.Short.{AreShort, ENTRIES_AT_CLOSE, MOST_ENTRIES}
 use Rattle.vmx_replay_order.proofs.Short.{short_more, short_closed}
 use Rattle.vmx_replay_order.proofs.order.close_all.Goals as goal
 

@@ -1,6 +1,6 @@
 use Rattle.std.proofs.Common.{◌∙◌, ◌<◌, ap, sym, arith, length, subst}
 use Rattle.vmx_model.specs.declared.plan.Plan.{Plan}
-use Rattle.vmx_replay_order.specs.Runs.{RunView}
+use Rattle.vmx_replay_runs.specs.Runs.{RunView}
 use Rattle.vmx_replay_order.proofs.Polls.{polled_on, polled_off, polled_less}
 use Rattle.vmx_replay_order.proofs.order.poll_until_empty.Goals as goal
 

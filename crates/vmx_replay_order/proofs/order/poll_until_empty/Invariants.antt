@@ -1,6 +1,6 @@
 use Rattle.std.proofs.Common.{◌≡◌}
 use Rattle.vmx_model.specs.Serial.{drained}
-use Rattle.vmx_replay_order.specs.Runs.{changes}
+use Rattle.vmx_replay_runs.specs.Runs.{changes}
 use Rattle.vmx_replay_order.proofs.Polls.{left_at}
 use Rattle.vmx_replay_order.proofs.order.poll_until_empty.Given as goal
 

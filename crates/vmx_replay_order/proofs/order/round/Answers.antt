@@ -4,9 +4,9 @@ use Rattle.vmx_model.specs.Serial.{turn}
 use Rattle.vmx_model.specs.SerialSteps.{turns_none, turns_more}
 use Rattle.vmx_model.specs.Turns.{IsReady}
 use Rattle.vmx_model.proofs.Ready.{ready_turns}
-use Rattle.vmx_replay_order.specs.Runs.{RunView}
+use Rattle.vmx_replay_runs.specs.Runs.{RunView}
 use Rattle.vmx_replay_order.proofs.Closing.{from_next, below_next}
-use Rattle.vmx_replay_order.specs.Short.{AreShort, ENTRIES_OF_TURN, ENTRIES_AT_ROUND, ENTRIES_AT_TURN}
+use Rattle.vmx_replay_runs.specs.Short.{AreShort, ENTRIES_OF_TURN, ENTRIES_AT_ROUND, ENTRIES_AT_TURN}
 use Rattle.vmx_replay_order.proofs.Short.{short_more, short_turns}
 use Rattle.vmx_replay_order.proofs.order.round.Goals as goal
 

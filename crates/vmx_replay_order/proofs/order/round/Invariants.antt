@@ -1,6 +1,6 @@
 use Rattle.std.proofs.Common.{◌≡◌, ◌+◌}
 use Rattle.vmx_model.specs.Serial.{turns}
-use Rattle.vmx_replay_order.specs.Standing.{StandFrom, StandBelow}
+use Rattle.vmx_replay_runs.specs.Standing.{StandFrom, StandBelow}
 use Rattle.vmx_replay_order.proofs.order.round.Given as goal
 
 abbrev pub invariant-loop-port : goal.invariant-loop-port

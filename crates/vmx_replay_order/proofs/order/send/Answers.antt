@@ -2,11 +2,11 @@ use Rattle.std.proofs.Common.{◌≢◌, ◌+◌, ◌<◌, ◌∙◌, arith, ℕ
 use Rattle.std.specs.List.{fold}
 use Rattle.std.proofs.lemmas.Result.{on_ok_weaker}
 use Rattle.vmx_model.specs.declared.plan.Plan.{Plan}
-use Rattle.vmx_replay_order.specs.Runs.{RunView, puts, ComesFrom}
+use Rattle.vmx_replay_runs.specs.Runs.{RunView, puts, ComesFrom}
 use Rattle.vmx_replay_order.specs.Orders.{arrives}
 use Rattle.vmx_replay_order.proofs.Frames.{goes_all, comes_puts, sends_is}
 use Rattle.vmx_switch.specs.declared.answer.TheConstants.{MAX_PORTS}
-use Rattle.vmx_replay_order.specs.Short.{AreShort, ENTRIES_AT_FRAME, ENTRIES_AT_ARRIVALS}
+use Rattle.vmx_replay_runs.specs.Short.{AreShort, ENTRIES_AT_FRAME, ENTRIES_AT_ARRIVALS}
 use Rattle.vmx_replay_order.proofs.Short.{short_more, short_puts}
 use Rattle.vmx_replay_order.proofs.order.send.Goals as goal
 

@@ -5,9 +5,9 @@ use Rattle.vmx_model.specs.Serial.{turns, rounds, start, last_number}
 use Rattle.vmx_model.specs.SerialSteps.{rounds_none, rounds_more}
 use Rattle.vmx_model.specs.Turns.{IsReady}
 use Rattle.vmx_model.proofs.Ready.{ready_rounds, ready_start}
-use Rattle.vmx_replay_order.specs.Runs.{RunView}
+use Rattle.vmx_replay_runs.specs.Runs.{RunView}
 use Rattle.vmx_replay_order.proofs.Closing.{at_first, over_last, run_is}
-use Rattle.vmx_replay_order.specs.Short.{AreShort, ENTRIES_OF_ROUND, ENTRIES_AT_ROUND, ENTRIES_AT_CLOSE}
+use Rattle.vmx_replay_runs.specs.Short.{AreShort, ENTRIES_OF_ROUND, ENTRIES_AT_ROUND, ENTRIES_AT_CLOSE}
 use Rattle.vmx_replay_order.proofs.Short.{short_more, short_rounds}
 use Rattle.vmx_replay_order.proofs.order.serial.Goals as goal
 

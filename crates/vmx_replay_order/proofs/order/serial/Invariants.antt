@@ -1,6 +1,6 @@
 use Rattle.std.proofs.Common.{◌≡◌}
 use Rattle.vmx_model.specs.Serial.{rounds, start}
-use Rattle.vmx_replay_order.specs.Standing.{StandAll}
+use Rattle.vmx_replay_runs.specs.Standing.{StandAll}
 use Rattle.vmx_replay_order.proofs.order.serial.Given as goal
 
 abbrev pub invariant-loop-number : goal.invariant-loop-number

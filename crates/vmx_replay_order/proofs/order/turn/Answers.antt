@@ -3,10 +3,10 @@ use Rattle.std.specs.List.{slice_get}
 use Rattle.std.proofs.lemmas.Result.{on_ok_weaker}
 use Rattle.vmx_model.specs.declared.plan.Plan.{Plan}
 use Rattle.vmx_model.specs.Turns.{IsReady}
-use Rattle.vmx_replay_order.specs.Runs.{RunView}
+use Rattle.vmx_replay_runs.specs.Runs.{RunView}
 use Rattle.vmx_replay_order.proofs.Actions.{ready_acted}
 use Rattle.vmx_replay_order.proofs.Turning.{turned_is, turned_stands, turned_others}
-use Rattle.vmx_replay_order.specs.Short.{AreShort, ENTRIES_OF_ACTIONS, ENTRIES_AT_TURN, ENTRIES_AT_FRAME}
+use Rattle.vmx_replay_runs.specs.Short.{AreShort, ENTRIES_OF_ACTIONS, ENTRIES_AT_TURN, ENTRIES_AT_FRAME}
 use Rattle.vmx_replay_order.proofs.Short.{short_more, short_acted}
 use Rattle.vmx_replay_order.proofs.order.turn.Goals as goal
 
