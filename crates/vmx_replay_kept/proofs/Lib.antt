@@ -1,0 +1,4 @@
+pub mod Turns
+pub mod Links
+pub mod Notes
+pub mod Kept

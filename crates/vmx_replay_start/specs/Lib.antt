@@ -1,0 +1,4 @@
+pub mod Views
+pub mod Switch
+pub mod Linking
+pub mod Made
