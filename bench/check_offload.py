@@ -3,6 +3,8 @@
 
     python3 bench/check_offload.py rows           prints the rows that the tests of vmx_checksum have
     python3 bench/check_offload.py fill IN OUT    says how many frames of the capture OUT are not those of IN with right checksums
+    python3 bench/check_offload.py segment IN OUT MSS
+                                                  says how many frames of OUT are not the segments of those of IN, or have a wrong sum
 
 Sums are taken as RFC 1071, section 1, says: word by word, each carry added back at once.
 """
@@ -155,16 +157,17 @@ def rows():
 
 
 def records(path):
+    """The records of a capture: seconds and microseconds, and the frame."""
     with open(path, "rb") as file:
         data = file.read()
     order = "<" if data[:4] in (b"\xd4\xc3\xb2\xa1", b"\x4d\x3c\xb2\xa1") else ">"
+    unit = 1_000 if data[:4] in (b"\x4d\x3c\xb2\xa1", b"\xa1\xb2\x3c\x4d") else 1
     at, found = 24, []
     while at + 16 <= len(data):
-        stamp = data[at : at + 8]
-        size = struct.unpack(order + "I", data[at + 8 : at + 12])[0]
+        seconds, fraction, size = struct.unpack(order + "III", data[at : at + 12])
         if at + 16 + size > len(data):
             break
-        found.append((stamp, data[at + 16 : at + 16 + size]))
+        found.append(((seconds, fraction // unit), data[at + 16 : at + 16 + size]))
         at += 16 + size
     return found
 
@@ -180,9 +183,86 @@ def filled(frame):
 def fill(path, other):
     want = [(stamp, filled(frame)) for stamp, frame in records(path) if len(frame) <= LONGEST]
     have = records(other)
-    wrong = sum(a[1] != b[1] for a, b in zip(want, have)) + abs(len(want) - len(have))
+    wrong = sum(a != b for a, b in zip(want, have)) + abs(len(want) - len(have))
     segments = sum(len(frame) >= 14 and answer(frame) is not None for _, frame in have)
     print(f"{len(have)} frames, {segments} with a segment, {wrong} wrong")
+    return 1 if wrong else 0
+
+
+def header_end(frame):
+    """Begin and end of the TCP segment and the end of its header, or None."""
+    found = segment(frame) if len(frame) >= 14 else None
+    if found is None:
+        return None
+    begin, end = found
+    behind = begin + (frame[begin + 12] >> 4) * 4
+    return (begin, behind, end) if begin + 20 <= behind <= end else None
+
+
+def is_v4(frame):
+    return frame[12:14] == b"\x08\x00" or frame[12:14] == b"\x81\x00" and frame[16:18] == b"\x08\x00"
+
+
+def cuts(frame, mss):
+    """The segments of a frame, or None where it is not cut."""
+    found = header_end(frame)
+    if found is None or found[2] - found[1] <= mss:
+        return None
+    begin, behind, end = found
+    packet = 18 if frame[12:14] == b"\x81\x00" else 14
+    parts = [frame[at : min(at + mss, end)] for at in range(behind, end, mss)]
+    segments = []
+    for number, part in enumerate(parts):
+        out = bytearray(frame[:behind] + part)
+        if is_v4(frame):
+            out[packet + 2 : packet + 4] = struct.pack(">H", len(out) - packet)
+            out[packet + 4 : packet + 6] = struct.pack(">H", word(frame, packet + 4) + number & 0xFFFF)
+            out[packet + 10 : packet + 12] = b"\0\0"
+            out[packet + 10 : packet + 12] = struct.pack(">H", 0xFFFF ^ added(0, bytes(out[packet:begin])))
+        else:
+            out[packet + 4 : packet + 6] = struct.pack(">H", len(out) - packet - 40)
+        sequence = int.from_bytes(frame[begin + 4 : begin + 8], "big")
+        out[begin + 4 : begin + 8] = struct.pack(">I", sequence + number * mss & 0xFFFFFFFF)
+        if number + 1 < len(parts):
+            out[begin + 13] &= 0xFF ^ 0x09
+        if number > 0:
+            out[begin + 13] &= 0xFF ^ 0x80
+        segments.append(filled(bytes(out)))
+    return segments
+
+
+def is_right(frame):
+    """Whether the sums of a frame's headers are right, as far as it has a TCP segment."""
+    found = segment(frame) if len(frame) >= 14 else None
+    if found is None:
+        return True
+    begin, end = found
+    packet = 18 if frame[12:14] == b"\x81\x00" else 14
+    if is_v4(frame) and added(0, frame[packet:begin]) != 0xFFFF:
+        return False
+    return added(pseudo(frame, begin, end), frame[begin:end]) == 0xFFFF
+
+
+def segment_capture(path, other, mss):
+    have = records(other)
+    at = wrong = cut = made = 0
+    for stamp, frame in records(path):
+        if len(frame) > LONGEST:
+            continue
+        pieces = cuts(frame, mss)
+        want = [filled(frame)] if pieces is None else pieces
+        got = have[at : at + len(want)]
+        at += len(want)
+        wrong += sum((stamp, a) != b for a, b in zip(want, got)) + len(want) - len(got)
+        if pieces is None:
+            continue
+        cut += 1
+        made += len(pieces)
+        begin, behind, end = header_end(frame)
+        wrong += sum(not is_right(piece) for _, piece in got)
+        wrong += b"".join(piece[behind:] for _, piece in got) != frame[behind:end]
+    wrong += len(have) - min(at, len(have))
+    print(f"{cut} frames cut into {made} segments, {len(have)} frames in all, {wrong} wrong")
     return 1 if wrong else 0
 
 
@@ -191,4 +271,6 @@ if __name__ == "__main__":
         sys.exit(rows())
     if len(sys.argv) == 4 and sys.argv[1] == "fill":
         sys.exit(fill(*sys.argv[2:]))
+    if len(sys.argv) == 5 and sys.argv[1] == "segment":
+        sys.exit(segment_capture(sys.argv[2], sys.argv[3], int(sys.argv[4])))
     sys.exit(__doc__)
