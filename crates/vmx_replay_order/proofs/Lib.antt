@@ -6,4 +6,5 @@ pub mod Actions
 pub mod Frames
 pub mod Closing
 pub mod Turning
+pub mod Returned
 pub mod Short

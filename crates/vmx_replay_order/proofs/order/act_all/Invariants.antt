@@ -5,16 +5,17 @@ use Rattle.vmx_replay_runs.specs.Short.{AreShort, ENTRIES_AT_TURN}
 use Rattle.vmx_replay_order.specs.Orders.{acted_by}
 use Rattle.vmx_replay_runs.specs.Standing.{OthersBegun}
 use Rattle.vmx_replay_order.proofs.Actions.{rest_of, many_left, Within}
+use Rattle.vmx_replay_actors.specs.Runs.{run_view}
 use Rattle.vmx_replay_order.proofs.order.act_all.Given as goal
 
-abbrev pub invariant-loop-actors : goal.invariant-loop-actors
-invariant-loop-actors g l = record {
-  left : rest_of l.port l.number (slice_get (g.A.Actors.run l.fn.actors).plan.guests l.port) ((g.A.Actors.run l.actors).reached l.port) (g.A.Actors.run l.actors).world ≡ acted_by l.port l.number (slice_get (g.A.Actors.run l.fn.actors).plan.guests l.port) (g.A.Actors.run l.fn.actors).world;
-  within : Within l.number (slice_get (g.A.Actors.run l.fn.actors).plan.guests l.port) ((g.A.Actors.run l.actors).reached l.port);
-  others : OthersBegun l.port (g.A.Actors.run l.fn.actors) (g.A.Actors.run l.actors);
-  short : AreShort (ENTRIES_AT_TURN + 2 * (g.A.Actors.run l.actors).reached l.port) (g.A.Actors.run l.actors).world;
-  ready : IsReady (g.A.Actors.run l.fn.actors).plan (g.A.Actors.run l.actors).world;
+abbrev pub invariant-loop-run : goal.invariant-loop-run
+invariant-loop-run g l = record {
+  left : rest_of l.port l.number (slice_get (run_view l.fn.run).plan.guests l.port) ((run_view l.run).reached l.port) (run_view l.run).world ≡ acted_by l.port l.number (slice_get (run_view l.fn.run).plan.guests l.port) (run_view l.fn.run).world;
+  within : Within l.number (slice_get (run_view l.fn.run).plan.guests l.port) ((run_view l.run).reached l.port);
+  others : OthersBegun l.port (run_view l.fn.run) (run_view l.run);
+  short : AreShort (ENTRIES_AT_TURN + 2 * (run_view l.run).reached l.port) (run_view l.run).world;
+  ready : IsReady (run_view l.fn.run).plan (run_view l.run).world;
 }
 
-abbrev pub decreases-loop-actors : goal.decreases-loop-actors
-decreases-loop-actors g l = many_left (slice_get (g.A.Actors.run l.fn.actors).plan.guests l.port) ((g.A.Actors.run l.actors).reached l.port)
+abbrev pub decreases-loop-run : goal.decreases-loop-run
+decreases-loop-run g l = many_left (slice_get (run_view l.fn.run).plan.guests l.port) ((run_view l.run).reached l.port)

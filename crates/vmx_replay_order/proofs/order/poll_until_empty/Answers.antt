@@ -4,8 +4,9 @@ use Rattle.vmx_replay_runs.specs.Runs.{RunView}
 use Rattle.vmx_replay_order.proofs.Polls.{polled_on, polled_off, polled_less}
 use Rattle.vmx_replay_order.proofs.order.poll_until_empty.Goals as goal
 
-pub poll-requires : goal.poll-requires
-poll-requires g c = record { port = subst (λ (plan : Plan). c.args.port < length plan.guests) (sym c.loop-count.invariant.plan) c.requires.port }
+pub poll-requires-clause-port : goal.poll-requires-clause-port
+poll-requires-clause-port g c κs within =
+    subst (λ (plan : Plan). c.args.port < length plan.guests) (sym c.loop-count.invariant.plan) c.requires.port
 
 pub returns-then-count-eq0 : goal.returns-then-count-eq0
 returns-then-count-eq0 g c = let e = c.in_ok-count.ensures in

@@ -1,0 +1,11 @@
+pub mod Seen
+pub mod Few
+pub mod Lists
+pub mod Standing
+pub mod Here
+pub mod Acting
+pub mod Putting
+pub mod Looking
+pub mod Closing
+pub mod Beginning
+pub mod Calls

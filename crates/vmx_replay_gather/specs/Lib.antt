@@ -1,0 +1,3 @@
+pub mod Records
+pub mod Ending
+pub mod Meeting
