@@ -2,6 +2,7 @@
 ghost use Rattle.std.specs.Prelude.{◌≡◌};
 ghost use Rattle.vmx_model.specs.declared.journal.Fate.TheVariants.{Up, Filtered, NoBuffer};
 
+use vmx_copies::FrameCopy;
 use vmx_filters::Rule;
 use vmx_io::List;
 use vmx_model::Fate;
@@ -93,4 +94,18 @@ pub(crate) fn are(fates: &List<List<Fate>>, wanted: &[(Fate, u64)]) -> bool {
         }
     }
     at == fates.len()
+}
+
+/// Whether these rows, in their order, have just these fates.
+pub(crate) fn are_rows(rows: &[FrameCopy], fates: &List<List<Fate>>) -> bool {
+    if rows.len() != fates.len() {
+        return false;
+    }
+    for index in 0..rows.len() {
+        let found = fates.at(index);
+        if found.len() != 1 || *found.at(0) != rows[index].fate {
+            return false;
+        }
+    }
+    true
 }
