@@ -7,10 +7,10 @@ use Rattle.std.proofs.lemmas.List.Elements.{All-from_recursion}
 use Rattle.vmx_pcap.specs.declared.records.Stamped.{Stamped}
 use Rattle.vmx_model.specs.declared.guest.GuestPlan.{GuestPlan}
 use Rattle.vmx_model.specs.declared.journal.Fate.{Fate}
-use Rattle.vmx_pair.specs.Plan.{IsPlain}
-use Rattle.vmx_pair.specs.Lengths.{is_sent}
-use Rattle.vmx_pair.specs.Fates.{sent_records}
-use Rattle.vmx_pair.proofs.Verdicts.{fates_from, sent_by_length}
+use Rattle.vmx_pair_plan.specs.Plan.{IsPlain}
+use Rattle.vmx_pair_plan.specs.Lengths.{is_sent}
+use Rattle.vmx_pair_plan.specs.Fates.{sent_records}
+use Rattle.vmx_pair_plan.proofs.Verdicts.{fates_from, sent_by_length}
 
 -- nothing waits any more
 pub all_told : (mtu place : ℕ) (waiting : List Stamped) (fates all : List Fate) → fates ++ fates_from mtu place waiting ≡ all → waiting ≡ [] → fates ≡ all

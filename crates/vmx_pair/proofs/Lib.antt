@@ -1,3 +1,1 @@
-pub mod Sizes
-pub mod Verdicts
 pub mod Fates

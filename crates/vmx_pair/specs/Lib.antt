@@ -1,5 +1,2 @@
-pub mod Plan
-pub mod Lengths
-pub mod Fates
-pub mod Summary
+pub mod Accounts
 pub mod Replays

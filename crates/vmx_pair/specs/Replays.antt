@@ -4,9 +4,10 @@ use Rattle.vmx_pcap.specs.declared.records.Capture.{Capture}
 use Rattle.vmx_pcap.specs.Written.{capture_bytes}
 use Rattle.vmx_model.specs.declared.plan.Plan.{Plan}
 use Rattle.vmx_pair.specs.declared.«record».Record.{Record}
-use Rattle.vmx_pair.specs.Plan.{IsPairPlan}
-use Rattle.vmx_pair.specs.Fates.{Accounts, sent_records}
-use Rattle.vmx_pair.specs.Summary.{summary}
+use Rattle.vmx_pair_plan.specs.Plan.{IsPairPlan}
+use Rattle.vmx_pair_plan.specs.Fates.{sent_records}
+use Rattle.vmx_pair.specs.Accounts.{Accounts}
+use Rattle.vmx_pair_plan.specs.Summary.{summary}
 
 -- what a replay by the plan of `pair` leaves: the record, the file and the summary
 pub record IsReplay (capture : Capture) (account : Record) (file lines : List ℕ) : Type 0 where

@@ -1,9 +1,9 @@
 //! The summary: one line of what was captured, one of what became of it.
 ghost use Rattle.std.specs.Prelude.{◌≡◌, IfOk, count_by};
 ghost use Rattle.std.specs.String.{string_bytes};
-ghost use Rattle.vmx_pair.specs.Plan.{IsPlain};
-ghost use Rattle.vmx_pair.specs.Lengths.{is_sent, is_short, is_too_long};
-ghost use Rattle.vmx_pair.specs.Summary.{first_line, second_line, summary};
+ghost use Rattle.vmx_pair_plan.specs.Plan.{IsPlain};
+ghost use Rattle.vmx_pair_plan.specs.Lengths.{is_sent, is_short, is_too_long};
+ghost use Rattle.vmx_pair_plan.specs.Summary.{first_line, second_line, summary};
 
 use std::alloc::{AllocError, Global};
 use vmx_frame::HEADER_LEN;
@@ -45,14 +45,14 @@ fn counts(mtu: u32, records: &[Stamped]) -> (usize, usize, usize)
     (up, short, long)
 }
 
-#[tactic(auto, unfolding(crate::specs::Summary::first_line))]
+#[tactic(auto, unfolding(vmx_pair_plan::specs::Summary::first_line))]
 fn first(alloc: Global, captured: usize, tail: u32) -> Result<String, AllocError>
     ensures line { IfOk result (λ s. string_bytes s ≡ first_line captured tail) }
 {
     format!(in alloc; "guests 2 captured {captured} copies {captured} tail {tail}\n")
 }
 
-#[tactic(auto, unfolding(crate::specs::Summary::second_line, crate::specs::Summary::no_counts))]
+#[tactic(auto, unfolding(vmx_pair_plan::specs::Summary::second_line, vmx_pair_plan::specs::Summary::no_counts))]
 fn second(alloc: Global, up: usize, short: usize, long: usize) -> Result<String, AllocError>
     ensures line { IfOk result (λ s. string_bytes s ≡ second_line up short long) }
 {

@@ -4,12 +4,11 @@
 //! record of what was handed up. The capture that is saved is written in between, from the arrived frames.
 ghost use Rattle.std.specs.Prelude.{◌≡◌, ◌++◌, ◌+◌, ◌<◌, ◌^◌, ◌∷◌, [], if◌then◌else◌, length, filter, map, IfOk, OnOk};
 ghost use Rattle.std.specs.String.{string_bytes};
-ghost use Rattle.vmx_pair.specs.Plan.{Fits, IsPlain};
-ghost use Rattle.vmx_pair.specs.Lengths.{is_sent, sending_of};
-ghost use Rattle.vmx_pair.specs.Fates.{fate_by, fates_due, handed_up, sent_records};
+ghost use Rattle.vmx_pair_plan.specs.Plan.{Fits, IsPlain};
+ghost use Rattle.vmx_pair_plan.specs.Lengths.{is_sent, sending_of};
+ghost use Rattle.vmx_pair_plan.specs.Fates.{fate_by, fates_due, handed_up, sent_records};
 ghost use Rattle.vmx_pair.specs.Replays.{IsReplay};
 
-use crate::plan::pair_plan;
 use crate::record::Record;
 use crate::summary::summary;
 use std::alloc::{AllocError, Global};
@@ -17,6 +16,7 @@ use std::collections::VecDeque;
 use vmx_frame::HEADER_LEN;
 use vmx_io::{Bytes, List};
 use vmx_model::{ABOVE_MTU, Fate, GuestPlan, Plan, Received, Sending};
+use vmx_pair_plan::pair_plan;
 use vmx_pcap::{Capture, Stamped};
 
 /// The record of a replay, the capture that is saved, and the summary.

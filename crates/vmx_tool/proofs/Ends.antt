@@ -12,9 +12,9 @@ use Rattle.vmx_tool.specs.declared.status.Status.{Status}
 use Rattle.vmx_tool.specs.declared.status.Status.TheVariants as status
 use Rattle.vmx_pair.specs.declared.«record».Record.{Record}
 use Rattle.vmx_tool.specs.Words.{pair_of}
-use Rattle.vmx_pair.specs.Fates.{sent_records}
+use Rattle.vmx_pair_plan.specs.Fates.{sent_records}
 use Rattle.vmx_tool.specs.Lines.{usage_lines, write_line, memory_line, line_of}
-use Rattle.vmx_pair.specs.Summary.{summary}
+use Rattle.vmx_pair_plan.specs.Summary.{summary}
 use Rattle.vmx_tool.specs.Ends.{World, Says, SaysPart, SaysFound, SaysBoth, SaysNoMemory, Refuses, Finishes, Replays, StoppedBy, Ends, Loaded, LoadedCounts, status_of}
 use Rattle.vmx_tool.proofs.Said.{nothing_more, part_of_write}
 

@@ -1,5 +1,5 @@
 -- When each refusal must come.
-use Rattle.std.proofs.Common.{◌≡◌, ◌⊎◌, ℕ, ◌≤◌, ◌<◌, List, length, Option, Some, None, refl, sym, ap, ◌∙◌, subst, arith, inl, inr}
+use Rattle.std.proofs.Common.{◌≡◌, ℕ, ◌≤◌, ◌<◌, List, length, Option, Some, None, refl, sym, ap, ◌∙◌, subst, arith, inl, inr}
 use Rattle.vmx_io.specs.Outside.{Files, content, Rose}
 use Rattle.vmx_pcap.specs.declared.records.Stamped.{Stamped}
 use Rattle.vmx_pcap.specs.declared.fault.CaptureFault.{CaptureFault}

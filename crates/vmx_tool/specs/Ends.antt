@@ -17,10 +17,11 @@ use Rattle.vmx_tool.specs.declared.status.Status.{Status}
 use Rattle.vmx_tool.specs.declared.status.Status.TheVariants as status
 use Rattle.vmx_pair.specs.declared.«record».Record.{Record}
 use Rattle.vmx_tool.specs.Words.{pair_of}
-use Rattle.vmx_pair.specs.Plan.{IsPairPlan}
-use Rattle.vmx_pair.specs.Fates.{Accounts, sent_records}
+use Rattle.vmx_pair_plan.specs.Plan.{IsPairPlan}
+use Rattle.vmx_pair_plan.specs.Fates.{sent_records}
+use Rattle.vmx_pair.specs.Accounts.{Accounts}
 use Rattle.vmx_tool.specs.Lines.{usage_lines, write_line, memory_line, line_of}
-use Rattle.vmx_pair.specs.Summary.{summary}
+use Rattle.vmx_pair_plan.specs.Summary.{summary}
 
 -- the outside at one moment
 pub record World : Type 0 where

@@ -2,7 +2,7 @@
 //!
 //! Once the records are read, nobody reads the file's bytes any more: their memory is handed on as room.
 ghost use Rattle.std.specs.Prelude.{◌≡◌, IfOk};
-ghost use Rattle.vmx_pair.specs.Plan.{Fits};
+ghost use Rattle.vmx_pair_plan.specs.Plan.{Fits};
 ghost use Rattle.vmx_tool.specs.Ends.{Loaded, LoadedCounts};
 
 use std::alloc::Global;
@@ -31,7 +31,7 @@ pub enum Stop {
 }
 
 /// Loads a file and reads the capture that it holds.
-#[tactic(auto, using(vmx_pair::proofs::Sizes::within_bytes, vmx_pcap::specs::Unique::shown_fault))]
+#[tactic(auto, using(vmx_pair_plan::proofs::Sizes::within_bytes, vmx_pcap::specs::Unique::shown_fault))]
 pub fn load_capture<S: Shelf>(alloc: Global, from: &str, shelf: &mut S) -> Result<ReadCapture, Stop>
     ensures fits { IfOk result (λ read. Fits read.capture) }
     ensures content { Loaded result from.now (S.files shelf.old) }

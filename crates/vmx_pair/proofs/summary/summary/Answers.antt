@@ -1,8 +1,8 @@
 use Rattle.std.proofs.Common.{◌≡◌, ◌∙◌, length, count_by, rules}
 use Rattle.std.specs.String.{string_bytes}
-use Rattle.vmx_pair.specs.Lengths.{is_sent, is_short, is_too_long}
-use Rattle.vmx_pair.specs.Summary.{lines_of}
-use Rattle.vmx_pair.proofs.Verdicts.{summary_by_length}
+use Rattle.vmx_pair_plan.specs.Lengths.{is_sent, is_short, is_too_long}
+use Rattle.vmx_pair_plan.specs.Summary.{lines_of}
+use Rattle.vmx_pair_plan.proofs.Verdicts.{summary_by_length}
 use Rattle.vmx_pair.proofs.summary.summary.Goals as goal
 
 pub returns : goal.returns

@@ -1,6 +1,6 @@
 use Rattle.std.proofs.Common.{◌≡◌, ◌≤◌, ◌+◌, ◌++◌, length, map}
 use Rattle.std.specs.VecDeque.{deque_len}
-use Rattle.vmx_pair.specs.Fates.{handed_up}
+use Rattle.vmx_pair_plan.specs.Fates.{handed_up}
 use Rattle.vmx_pair.proofs.transfer.hand_up.Given as goal
 
 abbrev pub invariant-loop-stamped : goal.invariant-loop-stamped

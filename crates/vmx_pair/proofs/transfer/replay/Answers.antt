@@ -2,10 +2,11 @@ use Rattle.std.proofs.Common.{◌≡◌, List, map, ap, ◌∙◌, sym, subst, r
 use Rattle.vmx_pcap.specs.declared.records.Stamped.{Stamped}
 use Rattle.vmx_pcap.specs.Written.{capture_bytes}
 use Rattle.vmx_model.specs.declared.guest.GuestPlan.{GuestPlan}
-use Rattle.vmx_pair.specs.Fates.{Accounts, handed_up, sent_records}
-use Rattle.vmx_pair.specs.Plan.{IsPlain}
-use Rattle.vmx_pair.specs.Summary.{summary}
-use Rattle.vmx_pair.proofs.Verdicts.{sender_plain, frames_sent}
+use Rattle.vmx_pair_plan.specs.Fates.{handed_up, sent_records}
+use Rattle.vmx_pair.specs.Accounts.{Accounts}
+use Rattle.vmx_pair_plan.specs.Plan.{IsPlain}
+use Rattle.vmx_pair_plan.specs.Summary.{summary}
+use Rattle.vmx_pair_plan.proofs.Verdicts.{sender_plain, frames_sent}
 use Rattle.vmx_pair.proofs.transfer.replay.Goals as goal
 
 pub returns : goal.returns

@@ -1,6 +1,6 @@
 use Rattle.std.proofs.Common.{◌≡◌, [], ◌∙◌, arith}
 use Rattle.std.proofs.lemmas.Grind.{common_steps}
-use Rattle.vmx_pair.proofs.Verdicts.{fates_by_length, sent_by_length}
+use Rattle.vmx_pair_plan.proofs.Verdicts.{fates_by_length, sent_by_length}
 use Rattle.vmx_pair.proofs.Fates.{all_told, all_sent}
 use Rattle.vmx_pair.proofs.transfer.send.Goals as goal
 

@@ -1,8 +1,8 @@
 use Rattle.std.proofs.Common.{◌≡◌, ◌≤◌, ◌+◌, ◌++◌, length}
 use Rattle.std.specs.Prelude.{filter}
 use Rattle.std.specs.VecDeque.{deque_len}
-use Rattle.vmx_pair.specs.Lengths.{is_sent}
-use Rattle.vmx_pair.proofs.Verdicts.{fates_from}
+use Rattle.vmx_pair_plan.specs.Lengths.{is_sent}
+use Rattle.vmx_pair_plan.proofs.Verdicts.{fates_from}
 use Rattle.vmx_pair.proofs.transfer.send.Given as goal
 
 abbrev pub invariant-loop-stamped : goal.invariant-loop-stamped

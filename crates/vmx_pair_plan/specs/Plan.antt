@@ -8,7 +8,7 @@ use Rattle.vmx_model.specs.declared.guest.GuestPlan.{GuestPlan}
 use Rattle.vmx_model.specs.declared.plan.Plan.{Plan}
 use Rattle.vmx_model.specs.declared.limits.TheConstants.{MAX_RECORDS, MAX_BYTES}
 use Rattle.vmx_model.specs.Totals.{frame_bytes}
-use Rattle.vmx_pair.specs.declared.plan.TheConstants.{MAC_A, MAC_B, PIECE}
+use Rattle.vmx_pair_plan.specs.declared.plan.TheConstants.{MAC_A, MAC_B, PIECE}
 
 -- a setup as a configuration has it by default, with this receive mode: no multicast address, all VLANs, no RSS, no data rings
 pub record HasDefaults (receives : ℕ) (s : Setup) : Type 0 where

@@ -1,6 +1,6 @@
 //! The verdicts of the plan of `pair`. What a run does is tested in vmx_tool_tests.
 ghost use Rattle.std.specs.Prelude.{◌≡◌, IfOk, IfSome};
-ghost use Rattle.vmx_pair.specs.Plan.{Fits};
+ghost use Rattle.vmx_pair_plan.specs.Plan.{Fits};
 
 use crate::plan::pair_plan;
 use std::alloc::{AllocError, Global};

@@ -1,5 +1,5 @@
 -- What a replay in which each sent frame comes up at guest `b` tells of the frames of guest `a`.
-use Rattle.std.specs.Prelude.{◌≡◌, ℕ, ◌+◌, List, [], ◌∷◌, map, if◌then◌else◌, None}
+use Rattle.std.specs.Prelude.{ℕ, ◌+◌, List, [], ◌∷◌, map, if◌then◌else◌, None}
 use Rattle.vmx_pcap.specs.declared.records.Stamped.{Stamped}
 use Rattle.vmx_model.specs.declared.guest.GuestPlan.{GuestPlan}
 use Rattle.vmx_model.specs.declared.sending.Sending.{Sending}
@@ -7,8 +7,7 @@ use Rattle.vmx_model.specs.declared.journal.Fate.{Fate}
 use Rattle.vmx_model.specs.declared.journal.Received.{Received}
 use Rattle.vmx_model.specs.declared.sending.Sending.TheVariants as sending
 use Rattle.vmx_model.specs.declared.journal.Fate.TheVariants as fate
-use Rattle.vmx_model.specs.Plan.{captured, captured_as, verdict_on, goes_on, frames_of}
-use Rattle.vmx_pair.specs.declared.«record».Record.{Record}
+use Rattle.vmx_model.specs.Plan.{captured, captured_as, verdict_on, goes_on}
 
 -- the fate of a frame with this verdict
 abbrev pub fate_by : Sending → Fate
@@ -34,8 +33,3 @@ sent_from g i (r ∷ rs) = if goes_on g 0 0 (captured_as g i r) then r ∷ sent_
 -- the records of a guest's sent frames
 abbrev pub sent_records : GuestPlan → List Stamped
 sent_records g = sent_from g 0 g.capture.records
-
--- the record of a guest's frames: each captured one has its fate by the verdict on it, and the sent ones are handed up in order
-pub record Accounts (g : GuestPlan) (account : Record) : Type 0 where
-  pub fates : account.fates ≡ fates_due g
-  pub received : account.received ≡ handed_up 0 (frames_of g 0 0)

@@ -6,7 +6,7 @@ use Rattle.vmx_pcap.specs.declared.records.Capture.{Capture}
 use Rattle.vmx_pcap.specs.declared.kinds.Encoding.{Encoding}
 use Rattle.vmx_pcap.specs.Capture.{IsCapture, AreRecords, captured_length}
 use Rattle.vmx_model.specs.Totals.{frame_bytes}
-use Rattle.vmx_pair.specs.Plan.{Fits}
+use Rattle.vmx_pair_plan.specs.Plan.{Fits}
 
 records_bytes : (e : Encoding) (bytes : List ℕ) (records : List Stamped) (rest : List ℕ) → AreRecords e bytes records rest → frame_bytes records + length rest ≡ length bytes
 records_bytes e bytes [] rest are = let same = ap length are in omega (arith, same)

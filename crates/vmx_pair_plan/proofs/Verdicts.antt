@@ -1,5 +1,5 @@
 -- The verdicts of a guest with one transmit queue and no script go by the lengths of its frames.
-use Rattle.std.proofs.Common.{◌≡◌, ℕ, suc, ◌+◌, ◌%◌, Bool, true, false, List, [], ◌∷◌, length, map, Option, Some, None, nat_le, nat_lt, refl, sym, ap, ◌∙◌, arith}
+use Rattle.std.proofs.Common.{◌≡◌, ℕ, zero, suc, ◌+◌, ◌%◌, Bool, true, false, List, [], ◌∷◌, length, map, take, Option, Some, None, nat_le, nat_lt, refl, sym, ap, ◌∙◌, arith}
 use Rattle.std.specs.Prelude.{slice_get, filter, count_by, if◌then◌else◌, ◌&&◌, not}
 use Rattle.std.proofs.lemmas.List.Sums.{length-filter}
 use Rattle.std.proofs.lemmas.Bool.Decides.{nat_tests}
@@ -15,10 +15,10 @@ use Rattle.vmx_model.specs.Wire.{takes_tag, wire_form, tx_queue}
 use Rattle.vmx_model.specs.Plan.{Captured, wire, past, is_down, activation_at, captured_as, numbered, goes_on, frames_of, place_of, verdict_on}
 use Rattle.vmx_model.specs.PlanSteps.{place_next}
 use Rattle.vmx_pcap.specs.declared.records.Capture.{Capture}
-use Rattle.vmx_pair.specs.Plan.{IsPlain, IsSender}
-use Rattle.vmx_pair.specs.Lengths.{is_sent, is_short, is_too_long, sending_of}
-use Rattle.vmx_pair.specs.Fates.{fate_by, fates_due, sent_from, sent_records}
-use Rattle.vmx_pair.specs.Summary.{says_sent, says_short, says_too_long, count_verdicts, lines_of, summary}
+use Rattle.vmx_pair_plan.specs.Plan.{IsPlain, IsSender}
+use Rattle.vmx_pair_plan.specs.Lengths.{is_sent, is_short, is_too_long, sending_of}
+use Rattle.vmx_pair_plan.specs.Fates.{fate_by, fates_due, sent_from, sent_records}
+use Rattle.vmx_pair_plan.specs.Summary.{says_sent, says_short, says_too_long, count_verdicts, lines_of, summary}
 
 -- guest `a` is plain
 pub sender_plain : (capture : Capture) (g : GuestPlan) → IsSender capture g → IsPlain g
@@ -47,7 +47,7 @@ bare_mark true frame = refl
 bare_mark false frame = refl
 
 -- without a VLAN a frame goes over the wire as it was captured
-same_wire : (g : GuestPlan) → IsPlain g → (i : ℕ) (r : Stamped) → wire (captured_as g i r) ≡ r.frame
+pub same_wire : (g : GuestPlan) → IsPlain g → (i : ℕ) (r : Stamped) → wire (captured_as g i r) ≡ r.frame
 same_wire g p i r = ap (λ (v : Option ℕ). wire_form (record { frame = r.frame; mark = mark_with (if takes_tag r.frame then v else None) })) p.vlan ∙ bare_mark (takes_tag r.frame) r.frame
 
 pub goes_by_length : (g : GuestPlan) → IsPlain g → (i : ℕ) (r : Stamped) → goes_on g 0 0 (captured_as g i r) ≡ is_sent g.setup.mtu r
@@ -177,3 +177,22 @@ pub summary_by_length : (g : GuestPlan) → IsPlain g
     → lines_of (length g.capture.records) g.capture.tail (count_by (is_sent g.setup.mtu) g.capture.records) (count_by is_short g.capture.records) (count_by (is_too_long g.setup.mtu) g.capture.records) ≡ summary g
 unfolding summary
 summary_by_length g p = rw (sent_count g p, short_count g p, too_long_count g p) refl
+
+-- ------------------------------------------------------------ the plan of `pair`
+
+take_numbered : (g : GuestPlan) (n i : ℕ) (rs : List Stamped) → take n (numbered g i rs) ≡ numbered g i (take n rs)
+take_numbered g zero i rs = refl
+take_numbered g (suc n) i [] = refl
+take_numbered g (suc n) i (r ∷ rs) = ap (λ (cs : List Captured). captured_as g i r ∷ cs) (take_numbered g n (i + 1) rs)
+
+-- the frames of the queue before a number are the sent ones
+place_by_length : (g : GuestPlan) → IsPlain g → (i : ℕ) → place_of g 0 0 i ≡ count (is_sent g.setup.mtu) (take i g.capture.records)
+place_by_length g p i = ap (count (goes_on g 0 0)) (take_numbered g i 0 g.capture.records) ∙ lengths_alike g (goes_on g 0 0) (is_sent g.setup.mtu) (goes_by_length g p) 0 (take i g.capture.records)
+
+pub verdict_here : (capture : Capture) (g : GuestPlan) → IsSender capture g → (i : ℕ) (r : Stamped) → verdict_on g (captured_as g i r) ≡ sending_of 1500 (count (is_sent 1500) (take i capture.records)) (length r.frame)
+verdict_here capture g s i r =
+    verdict_by_length g (sender_plain capture g s) i r ∙ ap (λ n. sending_of g.setup.mtu n (length r.frame)) (place_by_length g (sender_plain capture g s) i)
+    ∙ ap (λ m. sending_of m (count (is_sent m) (take i g.capture.records)) (length r.frame)) s.setup.mtu ∙ ap (λ (x : Capture). sending_of 1500 (count (is_sent 1500) (take i x.records)) (length r.frame)) s.capture
+
+pub sent_here : (capture : Capture) (g : GuestPlan) → IsSender capture g → sent_records g ≡ filter (is_sent 1500) capture.records
+sent_here capture g s = sym (sent_by_length g (sender_plain capture g s)) ∙ ap (λ m. filter (is_sent m) g.capture.records) s.setup.mtu ∙ ap (λ (x : Capture). filter (is_sent 1500) x.records) s.capture

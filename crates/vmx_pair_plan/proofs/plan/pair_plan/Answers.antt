@@ -2,9 +2,9 @@ use Rattle.std.proofs.Common.{ℕ, List, true, false, subst, refl, rules}
 use Rattle.std.specs.Prelude.{codes}
 use Rattle.vmx_pcap.specs.declared.records.Stamped.{Stamped}
 use Rattle.vmx_shared_area.specs.declared.offsets.TheConstants.{RX_MODE_PROMISC}
-use Rattle.vmx_pair.specs.declared.plan.TheConstants.{MAC_A, MAC_B}
-use Rattle.vmx_pair.specs.Plan.{IsGuest}
-use Rattle.vmx_pair.proofs.plan.pair_plan.Goals as goal
+use Rattle.vmx_pair_plan.specs.declared.plan.TheConstants.{MAC_A, MAC_B}
+use Rattle.vmx_pair_plan.specs.Plan.{IsGuest}
+use Rattle.vmx_pair_plan.proofs.plan.pair_plan.Goals as goal
 
 pub returns : goal.returns
 returns c =

@@ -1,7 +1,7 @@
 //! The fixed plan of `pair`: guest `a` sends the capture, and guest `b` is a sniffer. All else is as a configuration has it by default.
 ghost use Rattle.std.specs.Prelude.{◌≡◌, ◌%◌, true, slice_index, IfOk};
 ghost use Rattle.vmx_model.specs.Ranges.{is_name};
-ghost use Rattle.vmx_pair.specs.Plan.{Fits, HasDefaults, IsGuest, IsPairPlan};
+ghost use Rattle.vmx_pair_plan.specs.Plan.{Fits, HasDefaults, IsGuest, IsPairPlan};
 
 use std::alloc::{AllocError, Global};
 use vmx_io::{List, Text};

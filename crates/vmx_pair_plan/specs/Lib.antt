@@ -1,0 +1,4 @@
+pub mod Plan
+pub mod Lengths
+pub mod Fates
+pub mod Summary

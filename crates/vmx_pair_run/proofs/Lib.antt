@@ -1,0 +1,9 @@
+pub mod Targets
+pub mod Arrives
+pub mod Stands
+pub mod Runs
+pub mod Ends
+pub mod Plans
+pub mod Fates
+pub mod Records
+pub mod Stamps
